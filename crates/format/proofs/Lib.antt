@@ -1,0 +1,5 @@
+pub mod Tools
+pub mod Answer
+pub mod Utf8
+pub mod Bytes
+pub mod Read

@@ -1,0 +1,47 @@
+-- Bytes at positions. A blob is the list of its bytes. Document 01: "All integers in a blob are big-endian."
+use mathlib.Core.Path.{_≡_}
+use Prim.Native.Nat.{ℕ, zero, suc, _+_, _-_, _*_, _/_, _%_, _≤_, _<_}
+use mathlib.Core.List.{List, [], _∷_, _++_}
+use lib.ListN.{length, take, drop, getD}
+
+-- the n bytes of b from position p on
+unfoldable pub part : List ℕ → ℕ → ℕ → List ℕ
+part b p n = take n (drop p b)
+
+-- the bytes xs stand in the blob b, all of them, from position p on
+pub record Has (b : List ℕ) (p : ℕ) (xs : List ℕ) : Type 0 where
+  pub fits : p + length xs ≤ length b
+  pub same : part b p (length xs) ≡ xs
+
+-- the four big-endian bytes of n (the first is one only where n is below 2 ^ 32)
+unfoldable pub word : ℕ → List ℕ
+word n = n / 256 / 256 / 256 ∷ n / 256 / 256 % 256 ∷ n / 256 % 256 ∷ n % 256 ∷ []
+
+-- the eight big-endian bytes of n: a word for its upper half and one for its lower
+unfoldable pub long : ℕ → List ℕ
+long n = word (n / 0x1_0000_0000) ++ word (n % 0x1_0000_0000)
+
+-- the number that big-endian bytes stand for, after those that stand for `high`
+unfoldable pub number : ℕ → List ℕ → ℕ
+number high [] = high
+number high (x ∷ xs) = number (high * 256 + x) xs
+
+-- the number of the four, of the eight bytes at p, as far as they lie in the blob
+unfoldable pub wordAt : List ℕ → ℕ → ℕ
+wordAt b p = number 0 (part b p 4)
+
+unfoldable pub longAt : List ℕ → ℕ → ℕ
+longAt b p = number 0 (part b p 8)
+
+-- `val` rounded up to a multiple of `to`, as src/util.rs has it
+unfoldable pub align : ℕ → ℕ → ℕ
+align val to = val + (to - val % to) % to
+
+-- every element is a byte: what a `&[u8]` brings with it
+unfoldable pub AreBytes : List ℕ → Type 0
+AreBytes b = (i : ℕ) → getD b i 0 < 256
+
+-- no element is zero
+unfoldable pub NoZero : List ℕ → Type 0
+NoZero [] = Unit {0}
+NoZero (x ∷ xs) = (0 < x) × NoZero xs

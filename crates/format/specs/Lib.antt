@@ -1,0 +1,14 @@
+pub mod Choice
+pub mod Answer
+pub mod Bytes
+pub mod Format
+pub mod Tree
+pub mod Utf8
+pub mod Rules
+pub mod Encodes
+pub mod Read
+pub mod Rows
+pub mod Load
+pub mod Find
+pub mod Lookup
+pub mod Shape
