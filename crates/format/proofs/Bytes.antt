@@ -1,76 +1,102 @@
 -- Laws of bytes at positions: numbers and their big-endian bytes, what stands at a position, rounding up. Assumes nothing.
 use mathlib.Core.Path.{_≡_, refl, sym, ap, _∙_}
-use Prim.Native.Nat.{ℕ, zero, suc, _+_, _-_, _*_, _/_, _%_, _≤_, _<_}
+use Prim.Native.Nat.{ℕ, zero, suc, _+_, _-_, _*_, _/_, _%_, _≤_, _<_, _^_}
 use native.Mathlib.Omega.{arith}
 use native.Mathlib.Decide.{ℕ-discrete}
-use native.Mathlib.Nat.{add-zero, mod-lt, mod-self, mod-eq-of-lt, mod-zero, mod-mod, sub-zero, add-mod, add-mod-right, mod-add-mod, add-mod-mod}
-use mathlib.Core.List.{List, [], _∷_, _++_, append-assoc}
+use native.Mathlib.Nat.{le-trans, mul-assoc, one-mul, mul-le-mul-right, pow-succ', add-zero, mod-lt, mod-self, mod-eq-of-lt, mod-zero, mod-mod, sub-zero, add-mod, add-mod-right, mod-add-mod, add-mod-mod}
+use mathlib.Core.List.{List, [], _∷_, _++_, append-assoc, append-nil}
 use lib.ListN.{length, take, drop, getD, length-append, length-take, length-drop, take-append-drop}
 use lib.Seq.{take-add, take-append-seam, getD-drop, length-take-le, drop-drop, take-length, drop-append-le}
-use Rattle.format.specs.Bytes.{part, Has, word, long, number, wordAt, longAt, align, AreBytes}
+use Rattle.format.specs.Bytes.{part, Has, bigEndian, number, valueAt, align, AreBytes, Below}
 
--- ---- numbers
+-- ---- numbers and their bytes, at every width
 
 pub number-append : (high : ℕ) (xs ys : List ℕ) → number high (xs ++ ys) ≡ number (number high xs) ys
 unfolding number
 number-append high [] ys = refl
 number-append high (x ∷ xs) ys = number-append (high * 256 + x) xs ys
 
-pub number-word : (high n : ℕ) → number high (word n) ≡ high * 0x1_0000_0000 + n
-unfolding number word
-number-word high n = omega arith
+-- the bytes of a number stand for it
+pub number-bytes : (k n : ℕ) → 0 < k → number 0 (bigEndian k n) ≡ n
+unfolding bigEndian number
+number-bytes zero n h = absurd (omega arith)
+number-bytes (suc zero) n h = omega arith
+number-bytes (suc (suc k)) n h =
+    number-append 0 (bigEndian (suc k) (n / 256)) (n % 256 ∷ []) ∙ ap (λ m. m * 256 + n % 256) (number-bytes (suc k) (n / 256) (omega arith)) ∙ omega arith
 
-pub number-word₀ : (n : ℕ) → number 0 (word n) ≡ n
-number-word₀ n = number-word 0 n ∙ omega arith
+pub length-bytes : (k n : ℕ) → length (bigEndian k n) ≡ k
+unfolding bigEndian
+length-bytes zero n = refl
+length-bytes (suc zero) n = refl
+length-bytes (suc (suc k)) n = length-append (bigEndian (suc k) (n / 256)) _ ∙ rw (length-bytes (suc k) (n / 256)) (omega arith)
 
-pub number-long : (n : ℕ) → number 0 (long n) ≡ n
-unfolding long
-number-long n = number-append 0 (word (n / 0x1_0000_0000)) (word (n % 0x1_0000_0000)) ∙ rw (number-word (number 0 (word (n / 0x1_0000_0000))), number-word₀) (omega arith)
-
--- four bytes are the word of their number, which is below 2 ^ 32
-pub record IsWord (xs : List ℕ) : Type 0 where
-  pub same : word (number 0 xs) ≡ xs
-  pub small : number 0 xs < 0x1_0000_0000
-
-four : (a b c d : ℕ) → a < 256 → b < 256 → c < 256 → d < 256 → IsWord (a ∷ b ∷ c ∷ d ∷ [])
-unfolding word number
-four a b c d ha hb hc hd =
-    let n : ℕ = number 0 (a ∷ b ∷ c ∷ d ∷ []) in
-    let e₀ : n / 256 / 256 / 256 ≡ a = omega arith in
-    let e₁ : n / 256 / 256 % 256 ≡ b = omega arith in
-    let e₂ : n / 256 % 256 ≡ c = omega arith in
-    let e₃ : n % 256 ≡ d = omega arith in
-    record { same = cc; small = omega arith }
-
-pub front4 : (l : List ℕ) → AreBytes l → 4 ≤ length l → IsWord (take 4 l)
-unfolding AreBytes
-front4 [] all h = absurd (omega arith)
-front4 (a ∷ []) all h = absurd (omega arith)
-front4 (a ∷ b ∷ []) all h = absurd (omega arith)
-front4 (a ∷ b ∷ c ∷ []) all h = absurd (omega arith)
-front4 (a ∷ b ∷ c ∷ d ∷ l) all h = four a b c d (all 0) (all 1) (all 2) (all 3)
-
-pub bytes-drop : (b : List ℕ) (p : ℕ) → AreBytes b → AreBytes (drop p b)
-unfolding AreBytes
-bytes-drop b p all i = rw getD-drop (all (p + i))
-
-long-halves : (hi lo : ℕ) → lo < 0x1_0000_0000 → long (hi * 0x1_0000_0000 + lo) ≡ word hi ++ word lo
-unfolding long
-long-halves hi lo h =
-    let q : (hi * 0x1_0000_0000 + lo) / 0x1_0000_0000 ≡ hi = omega arith in
-    let r : (hi * 0x1_0000_0000 + lo) % 0x1_0000_0000 ≡ lo = omega arith in
+last-byte : (j high x : ℕ) → x < 256 → bigEndian (suc (suc j)) (high * 256 + x) ≡ bigEndian (suc j) high ++ x ∷ []
+unfolding bigEndian
+last-byte j high x h =
+    let q : (high * 256 + x) / 256 ≡ high = omega arith in
+    let r : (high * 256 + x) % 256 ≡ x = omega arith in
     rw (q, r)
 
-front8 : (l : List ℕ) → AreBytes l → 8 ≤ length l → long (number 0 (take 8 l)) ≡ take 8 l
-front8 l all h =
-    let u = front4 l all (omega arith) in
-    let v = front4 (drop 4 l) (bytes-drop l 4 all) (rw length-drop (omega arith)) in
-    let hi : ℕ = number 0 (take 4 l) in
-    let lo : ℕ = number 0 (take 4 (drop 4 l)) in
-    let halves : take 8 l ≡ word hi ++ word lo = take-add 4 4 l ∙ cc (u .same, v .same) in
-    let value : number 0 (word hi ++ word lo) ≡ hi * 0x1_0000_0000 + lo =
-    number-append 0 (word hi) (word lo) ∙ number-word (number 0 (word hi)) lo ∙ rw number-word₀ in
-    rw (halves, value) (long-halves hi lo (v .small))
+-- bytes after those of a number `high`
+bytes-after : (j high : ℕ) (xs : List ℕ) → Below 256 xs → bigEndian (length xs + suc j) (number high xs) ≡ bigEndian (suc j) high ++ xs
+unfolding number Below
+bytes-after j high [] all = ap (λ k. bigEndian k high) (omega arith) ∙ sym (append-nil _)
+bytes-after j high (x ∷ xs) all =
+    let e : suc (length xs) + suc j ≡ length xs + suc (suc j) = omega arith in
+    ap (λ k. bigEndian k (number (high * 256 + x) xs)) e
+    ∙ bytes-after (suc j) (high * 256 + x) xs (all .1)
+    ∙ ap (λ l. l ++ xs) (last-byte j high x (all .0))
+    ∙ append-assoc (bigEndian (suc j) high) (x ∷ []) xs
+
+-- bytes are the bytes of the number that they stand for
+pub bytes-number : (xs : List ℕ) → Below 256 xs → 0 < length xs → bigEndian (length xs) (number 0 xs) ≡ xs
+unfolding number Below bigEndian
+bytes-number [] all h = absurd (omega arith)
+bytes-number (x ∷ xs) all h =
+    let e : suc (length xs) ≡ length xs + 1 = omega arith in
+    let z : 0 * 256 + x ≡ x = omega arith in
+    ap (λ k. bigEndian k (number (0 * 256 + x) xs)) e ∙ bytes-after 0 (0 * 256 + x) xs (all .1) ∙ rw (bigEndian, z)
+
+-- and that number is small
+pub number-small : (high : ℕ) (xs : List ℕ) → Below 256 xs → number high xs < (high + 1) * 256 ^ length xs
+unfolding number Below
+number-small high [] all = omega arith
+number-small high (x ∷ xs) all =
+    let m : (high * 256 + x + 1) * 256 ^ length xs ≤ ((high + 1) * 256) * 256 ^ length xs = mul-le-mul-right (256 ^ length xs) (omega (arith, all .0)) in
+    let e : (high + 1) * 256 ^ suc (length xs) ≡ ((high + 1) * 256) * 256 ^ length xs = ap (λ k. (high + 1) * k) (pow-succ' 256 (length xs)) ∙ sym (mul-assoc (high + 1) 256 (256 ^ length xs)) in
+    rw e (le-trans (number-small (high * 256 + x) xs (all .1)) m)
+
+-- ---- the bytes of a blob
+
+bytes-below : (l : List ℕ) → AreBytes l → Below 256 l
+unfolding AreBytes Below
+bytes-below [] all = tt
+bytes-below (x ∷ l) all = (all 0, bytes-below l (λ i. all (suc i)))
+
+below-take : (n k : ℕ) (l : List ℕ) → Below n l → Below n (take k l)
+unfolding Below
+below-take n zero l h = tt
+below-take n (suc k) [] h = tt
+below-take n (suc k) (x ∷ l) h = (h .0, below-take n k l (h .1))
+
+below-drop : (n k : ℕ) (l : List ℕ) → Below n l → Below n (drop k l)
+unfolding Below
+below-drop n zero l h = h
+below-drop n (suc k) [] h = tt
+below-drop n (suc k) (x ∷ l) h = below-drop n k l (h .1)
+
+pub below-append : (n : ℕ) (xs ys : List ℕ) → Below n xs → Below n ys → Below n (xs ++ ys)
+unfolding Below
+below-append n [] ys h k = k
+below-append n (x ∷ xs) ys h k = (h .0, below-append n xs ys (h .1) k)
+
+pub part-below : (b : List ℕ) (p k : ℕ) → AreBytes b → Below 256 (part b p k)
+unfolding part
+part-below b p k all = below-take 256 k (drop p b) (below-drop 256 p b (bytes-below b all))
+
+pub part-length : (b : List ℕ) (p k : ℕ) → p + k ≤ length b → length (part b p k) ≡ k
+unfolding part
+part-length b p k h = length-take-le k (drop p b) (rw length-drop (omega arith))
 
 module _ (b : List ℕ) where
   -- the bytes that stand at p, and those after them
@@ -100,31 +126,22 @@ has-front-of b e p xs h =
       same = ap (take (length xs)) (whole ∙ append-assoc xs _ _) ∙ take-append-seam xs _;
     }
 
--- the number that a word stands for
-pub word-is : (b : List ℕ) (p n : ℕ) → Has b p (word n) → wordAt b p ≡ n
-unfolding word wordAt
-word-is b p n h = ap (number 0) (h .same) ∙ number-word₀ n
+-- the number that bytes at p stand for
+pub value-is : (b : List ℕ) (p k n : ℕ) → 0 < k → Has b p (bigEndian k n) → valueAt k b p ≡ n
+unfolding valueAt
+value-is b p k n pos h = ap (number 0) (rw (length-bytes k n) at (h .same)) ∙ number-bytes k n pos
 
-pub long-is : (b : List ℕ) (p n : ℕ) → Has b p (long n) → longAt b p ≡ n
-unfolding word long longAt
-long-is b p n h = ap (number 0) (h .same) ∙ number-long n
+-- k bytes of a blob are the bytes of their number
+pub value-stands : (b : List ℕ) (p k : ℕ) → AreBytes b → 0 < k → p + k ≤ length b → Has b p (bigEndian k (valueAt k b p))
+unfolding valueAt
+value-stands b p k all pos fits =
+    let size = part-length b p k fits in
+    let same : bigEndian k (number 0 (part b p k)) ≡ part b p k = rw size at (bytes-number (part b p k) (part-below b p k all) (rw size pos)) in
+    record { fits = rw (length-bytes k (number 0 (part b p k))) fits; same = rw (length-bytes k (number 0 (part b p k))) (sym same) }
 
--- four bytes of a blob are the word of their number, and eight the long
-pub word-stands : (b : List ℕ) (p : ℕ) → AreBytes b → p + 4 ≤ length b → Has b p (word (wordAt b p))
-unfolding word wordAt part
-word-stands b p all fits =
-    let front = front4 (drop p b) (bytes-drop b p all) (rw length-drop (omega arith)) in
-    record { fits = fits; same = sym (front .same) }
-
-pub word-small : (b : List ℕ) (p : ℕ) → AreBytes b → p + 4 ≤ length b → wordAt b p < 0x1_0000_0000
-unfolding wordAt part
-word-small b p all fits = front4 (drop p b) (bytes-drop b p all) (rw length-drop (omega arith)) .small
-
-pub long-stands : (b : List ℕ) (p : ℕ) → AreBytes b → p + 8 ≤ length b → Has b p (long (longAt b p))
-unfolding word long longAt part
-long-stands b p all fits =
-    let front = front8 (drop p b) (bytes-drop b p all) (rw length-drop (omega arith)) in
-    record { fits = fits; same = sym front }
+pub value-small : (b : List ℕ) (p k : ℕ) → AreBytes b → p + k ≤ length b → valueAt k b p < 256 ^ k
+unfolding valueAt
+value-small b p k all fits = omega (arith, rw (part-length b p k fits) at (number-small 0 (part b p k) (part-below b p k all)), one-mul (256 ^ k))
 
 -- ---- rounding up
 

@@ -3,3 +3,11 @@ pub mod Answer
 pub mod Utf8
 pub mod Bytes
 pub mod Read
+pub mod Sound
+pub mod Complete
+pub mod Loops
+pub mod Turns
+pub mod Original
+pub mod Runs
+pub mod Rows
+pub mod Shape

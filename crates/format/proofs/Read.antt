@@ -9,58 +9,49 @@ use lib.ListN.{length, take, drop, getD, length-append, length-drop}
 use lib.Seq.{take-append-seam, getD-drop, length-take-le}
 use lib.Dec.{leb, ltb, eqb}
 use borrow.Author.Tests.{leb-true, ltb-true, le-leb, lt-leb, lt-ltb, le-ltb, eq-eqb, ne-eqb}
-use Rattle.format.specs.Bytes.{part, Has, word, long, number, wordAt, longAt, align, AreBytes, NoZero}
+use Rattle.format.specs.Bytes.{part, Has, bigEndian, word, long, valueAt, AreBytes, NoZero}
 use Rattle.format.specs.Answer.{Refusal, unexpectedEndOfInput, Outcome, ok, refused, _>>=_, check, spanAt, Span}
-use Rattle.format.specs.Read.{aligned, read-be-u32, read-be-u64, untilZero, read-bstring0, subslice}
+use Rattle.format.specs.Read.{read-be, read-be-u32, read-be-u64, untilZero, read-bstring0, subslice}
 use Rattle.format.proofs.Answer.{never, ok-same, step, then-ok, then-refused, check-ok, check-no, checked}
-use Rattle.format.proofs.Bytes.{word-is, long-is, word-stands, long-stands, has-rest, has-front}
+use Rattle.format.proofs.Bytes.{length-bytes, value-is, value-stands, has-rest, has-front}
 
--- ---- words and longs
+-- ---- numbers, at every width
+
+module _ (b : List ℕ) (k p : ℕ) where
+  pub read-there : p + k ≤ length b → read-be k b p ≡ ok (valueAt k b p)
+  unfolding read-be
+  read-there h = then-ok _ _ (check-ok _ (le-leb (p + k) (length b) h)) refl
+
+  pub read-past-end : length b < p + k → read-be k b p ≡ refused unexpectedEndOfInput
+  unfolding read-be
+  read-past-end h = then-refused _ _ (check-no _ (lt-leb (p + k) (length b) h))
+
+  pub read-inside : {n : ℕ} → read-be k b p ≡ ok n → p + k ≤ length b
+  unfolding read-be
+  read-inside e = step _ _ e λ _ h e. leb-true _ _ (checked _ _ h)
+
+-- what stands at p is read, and what is read stands there
+pub read-value : (b : List ℕ) (k p : ℕ) {n : ℕ} → 0 < k → Has b p (bigEndian k n) → read-be k b p ≡ ok n
+read-value b k p {n} pos h = read-there b k p (rw (length-bytes k n) at (h .fits)) ∙ ap ok (value-is b p k n pos h)
+
+pub value-read : (b : List ℕ) (k p : ℕ) → AreBytes b → 0 < k → {n : ℕ} → read-be k b p ≡ ok n → Has b p (bigEndian k n)
+value-read b k p all pos {n} e =
+    let fits = read-inside b k p e in
+    let same : valueAt k b p ≡ n = ok-same (sym (read-there b k p fits) ∙ e) in
+    rw same at (value-stands b p k all pos fits)
 
 module _ (b : List ℕ) (p : ℕ) where
-  pub word-there : p + 4 ≤ length b → read-be-u32 b p ≡ ok (wordAt b p)
-  unfolding read-be-u32
-  word-there h = then-ok _ _ (check-ok _ (le-leb (p + 4) (length b) h)) refl
-
-  pub word-past-end : length b < p + 4 → read-be-u32 b p ≡ refused unexpectedEndOfInput
-  unfolding read-be-u32
-  word-past-end h = then-refused _ _ (check-no _ (lt-leb (p + 4) (length b) h))
-
-  pub word-inside : {n : ℕ} → read-be-u32 b p ≡ ok n → p + 4 ≤ length b
-  unfolding read-be-u32
-  word-inside e = step _ _ e λ _ h e. leb-true _ _ (checked _ _ h)
-
-  pub long-there : p + 8 ≤ length b → read-be-u64 b p ≡ ok (longAt b p)
-  unfolding read-be-u64
-  long-there h = then-ok _ _ (check-ok _ (le-leb (p + 8) (length b) h)) refl
-
-  pub long-past-end : length b < p + 8 → read-be-u64 b p ≡ refused unexpectedEndOfInput
-  unfolding read-be-u64
-  long-past-end h = then-refused _ _ (check-no _ (lt-leb (p + 8) (length b) h))
-
-  pub long-inside : {n : ℕ} → read-be-u64 b p ≡ ok n → p + 8 ≤ length b
-  unfolding read-be-u64
-  long-inside e = step _ _ e λ _ h e. leb-true _ _ (checked _ _ h)
-
   pub read-word : {n : ℕ} → Has b p (word n) → read-be-u32 b p ≡ ok n
-  unfolding word
-  read-word {n} h = word-there (h .fits) ∙ ap ok (word-is b p n h)
+  read-word h = read-value b 4 p (omega arith) h
 
   pub word-read : AreBytes b → {n : ℕ} → read-be-u32 b p ≡ ok n → Has b p (word n)
-  word-read all {n} e =
-      let fits = word-inside e in
-      let same : wordAt b p ≡ n = ok-same (sym (word-there fits) ∙ e) in
-      rw same at (word-stands b p all fits)
+  word-read all e = value-read b 4 p all (omega arith) e
 
   pub read-long : {n : ℕ} → Has b p (long n) → read-be-u64 b p ≡ ok n
-  unfolding word long
-  read-long {n} h = long-there (h .fits) ∙ ap ok (long-is b p n h)
+  read-long h = read-value b 8 p (omega arith) h
 
   pub long-read : AreBytes b → {n : ℕ} → read-be-u64 b p ≡ ok n → Has b p (long n)
-  long-read all {n} e =
-      let fits = long-inside e in
-      let same : longAt b p ≡ n = ok-same (sym (long-there fits) ∙ e) in
-      rw same at (long-stands b p all fits)
+  long-read all e = value-read b 8 p all (omega arith) e
 
 -- ---- strings
 

@@ -1,5 +1,5 @@
 -- What a call answers: a value or a refusal, and the numbers that document 01 knows them by ("When the reader says no").
-use Prim.Native.Nat.{ℕ}
+use Prim.Native.Nat.{ℕ, _≤_}
 use mathlib.Core.List.{List, [], _∷_}
 use mathlib.Core.Bool.{Bool, true, false}
 use lib.ListN.{length}
@@ -37,6 +37,19 @@ pub data Outcome (A : Type 0) : Type 0 where
 unfoldable pub numbers : {A : Type 0} → (A → List ℕ) → Outcome A → List ℕ
 numbers carries (ok a) = 0 ∷ carries a
 numbers carries (refused r) = refusalNumbers r
+
+-- document 01's number alone
+unfoldable pub first : List ℕ → ℕ
+first [] = 0
+first (n ∷ ns) = n
+
+unfoldable pub code : {A : Type 0} → Outcome A → ℕ
+code (ok a) = 0
+code (refused r) = first (refusalNumbers r)
+
+-- "unless refused with 7 to 10": the limits that the Rust does not have
+abbrev pub Limit : ℕ → Type 0
+Limit n = (7 ≤ n) × (n ≤ 10)
 
 -- what a value carries: one number, or nothing
 unfoldable pub itself : ℕ → List ℕ

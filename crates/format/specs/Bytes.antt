@@ -13,25 +13,29 @@ pub record Has (b : List ℕ) (p : ℕ) (xs : List ℕ) : Type 0 where
   pub fits : p + length xs ≤ length b
   pub same : part b p (length xs) ≡ xs
 
--- the four big-endian bytes of n (the first is one only where n is below 2 ^ 32)
-unfoldable pub word : ℕ → List ℕ
-word n = n / 256 / 256 / 256 ∷ n / 256 / 256 % 256 ∷ n / 256 % 256 ∷ n % 256 ∷ []
+-- the k big-endian bytes of n; the first has all that is left of n, so it is a byte only where n is below 256 ^ k
+unfoldable pub bigEndian : ℕ → ℕ → List ℕ
+bigEndian zero n = []
+bigEndian (suc zero) n = n ∷ []
+bigEndian (suc (suc k)) n = bigEndian (suc k) (n / 256) ++ n % 256 ∷ []
 
--- the eight big-endian bytes of n: a word for its upper half and one for its lower
-unfoldable pub long : ℕ → List ℕ
-long n = word (n / 0x1_0000_0000) ++ word (n % 0x1_0000_0000)
+abbrev pub word : ℕ → List ℕ
+word n = bigEndian 4 n
+
+abbrev pub long : ℕ → List ℕ
+long n = bigEndian 8 n
 
 -- the number that big-endian bytes stand for, after those that stand for `high`
 unfoldable pub number : ℕ → List ℕ → ℕ
 number high [] = high
 number high (x ∷ xs) = number (high * 256 + x) xs
 
--- the number of the four, of the eight bytes at p, as far as they lie in the blob
-unfoldable pub wordAt : List ℕ → ℕ → ℕ
-wordAt b p = number 0 (part b p 4)
+-- the number of the k bytes at p, as far as they lie in the blob
+unfoldable pub valueAt : ℕ → List ℕ → ℕ → ℕ
+valueAt k b p = number 0 (part b p k)
 
-unfoldable pub longAt : List ℕ → ℕ → ℕ
-longAt b p = number 0 (part b p 8)
+abbrev pub wordAt : List ℕ → ℕ → ℕ
+wordAt b p = valueAt 4 b p
 
 -- `val` rounded up to a multiple of `to`, as src/util.rs has it
 unfoldable pub align : ℕ → ℕ → ℕ
@@ -45,3 +49,8 @@ AreBytes b = (i : ℕ) → getD b i 0 < 256
 unfoldable pub NoZero : List ℕ → Type 0
 NoZero [] = Unit {0}
 NoZero (x ∷ xs) = (0 < x) × NoZero xs
+
+-- every element is below n
+unfoldable pub Below : ℕ → List ℕ → Type 0
+Below n [] = Unit {0}
+Below n (x ∷ xs) = (x < n) × Below n xs

@@ -7,7 +7,7 @@ use lib.ListN.{length, take, drop}
 use lib.Dec.{eqb, leb, ltb}
 use Rattle.format.specs.Choice.{if_then_else_}
 use Rattle.format.specs.Answer.{Outcome, ok, refused, _>>=_, check, unexpectedEndOfInput, parseError, utf8Error, tooDeep, invalidMagicNumber, sizeMismatch, versionNotSupported}
-use Rattle.format.specs.Bytes.{part, wordAt, longAt, align}
+use Rattle.format.specs.Bytes.{part, valueAt, align}
 use Rattle.format.specs.Format.{magic, version, magicAt, totalSizeAt, structureAt, stringsAt, reservationsAt, versionAt, bootCpuAt, BEGIN-NODE, END-NODE, PROP}
 use Rattle.format.specs.Utf8.{from-utf8}
 use Rattle.format.specs.Tree.{Property, Node, node, Nodes, none, _&_, Reservation, Tree}
@@ -23,16 +23,17 @@ aligned val to = do
   _ ← check (ltb (align val to) (2 ^ 64)) unexpectedEndOfInput
   ok (align val to)
 
--- "Given exactly when the position plus 4 or 8 is at most the length."
-unfoldable pub read-be-u32 : List ℕ → ℕ → Outcome ℕ
-read-be-u32 b p = do
-  _ ← check (leb (p + 4) (length b)) unexpectedEndOfInput
-  ok (wordAt b p)
+-- "4 or 8 bytes at a position, given exactly when the position plus 4 or 8 is at most the length"
+unfoldable pub read-be : ℕ → List ℕ → ℕ → Outcome ℕ
+read-be k b p = do
+  _ ← check (leb (p + k) (length b)) unexpectedEndOfInput
+  ok (valueAt k b p)
 
-unfoldable pub read-be-u64 : List ℕ → ℕ → Outcome ℕ
-read-be-u64 b p = do
-  _ ← check (leb (p + 8) (length b)) unexpectedEndOfInput
-  ok (longAt b p)
+abbrev pub read-be-u32 : List ℕ → ℕ → Outcome ℕ
+read-be-u32 b p = read-be 4 b p
+
+abbrev pub read-be-u64 : List ℕ → ℕ → Outcome ℕ
+read-be-u64 b p = read-be 8 b p
 
 -- what stands before the first zero byte
 unfoldable pub untilZero : List ℕ → Outcome (List ℕ)
@@ -144,18 +145,21 @@ header b = do
   boot ← read-be-u32 b bootCpuAt
   ok (record { structure = structure; strings = strings; reservations = reservations; boot = boot })
 
--- what follows the header
-unfoldable pub body : Rules → List ℕ → Header → Outcome Tree
-body rules b h = do
+-- what follows the header, with nodes at most `depth` deep
+unfoldable pub body : Rules → ℕ → List ℕ → Header → Outcome Tree
+body rules depth b h = do
   reserved ← reservations (rules .isLast) b (length b) (h .reservations)
-  root ← nodeLoad b (record { start = h .strings; end = rules .stringsEnd b }) (rules .depthLimit b) (h .structure)
+  root ← nodeLoad b (record { start = h .strings; end = rules .stringsEnd b }) depth (h .structure)
   ok (record { boot = h .boot; reserved = reserved; root = root .value })
+
+unfoldable pub loadWithin : Rules → ℕ → List ℕ → Outcome Tree
+loadWithin rules depth b = do
+  h ← header b
+  body rules depth b h
 
 -- `DeviceTree::load`. Room for the rows is judged after this.
 unfoldable pub load : Rules → List ℕ → Outcome Tree
-load rules b = do
-  h ← header b
-  body rules b h
+load rules b = loadWithin rules (rules .depthLimit b) b
 
 -- ---- the UTF-8 check called alone
 
