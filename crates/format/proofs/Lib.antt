@@ -11,3 +11,6 @@ pub mod Original
 pub mod Runs
 pub mod Rows
 pub mod Shape
+pub mod Sizes
+pub mod Load
+pub mod Lookup

@@ -75,6 +75,11 @@ unfolding nodeNumbers
 numbers-append [] ys = refl
 numbers-append (x ∷ xs) ys = rw (numbers-append xs ys)
 
+pub property-numbers-append : (xs ys : List PropertyRow) → propertyNumbers (xs ++ ys) ≡ propertyNumbers xs ++ propertyNumbers ys
+unfolding propertyNumbers
+property-numbers-append [] ys = refl
+property-numbers-append (x ∷ xs) ys = rw (property-numbers-append xs ys)
+
 pub numbers-length : (xs : List NodeRow) → length (nodeNumbers xs) ≡ nodeWidth * length xs
 unfolding nodeNumbers nodeWidth
 numbers-length [] = refl

@@ -1,6 +1,6 @@
 -- A load into lent tables: its answer, and what the tables hold afterwards; and loads one after another.
 use mathlib.Core.Path.{_≡_}
-use Prim.Native.Nat.{ℕ, zero, suc, _/_}
+use Prim.Native.Nat.{ℕ, zero, suc, _/_, _≤_}
 use mathlib.Core.List.{List, [], _∷_}
 use mathlib.Core.Option.{Option, none, some}
 use lib.ListN.{length}
@@ -9,8 +9,9 @@ use lib.Dec.{leb}
 use Rattle.format.specs.Bytes.{AreBytes}
 use Rattle.format.specs.Format.{version, reservationWidth, nodeWidth, propertyWidth}
 use Rattle.format.specs.Answer.{Outcome, ok, refused, _>>=_, check, numbers, reservationRoom, nodeRoom, propertyRoom}
-use Rattle.format.specs.Tree.{Tree, nodeCount, propertyCount}
+use Rattle.format.specs.Tree.{Tree, depth, nodeCount, propertyCount}
 use Rattle.format.specs.Rules.{ours}
+use Rattle.format.specs.Encodes.{Encodes}
 use Rattle.format.specs.Rows.{rows, reservationNumbers, nodeNumbers, propertyNumbers}
 use Rattle.format.specs.Read as read
 
@@ -55,6 +56,14 @@ tablesAfter lent b (refused r) = lent
 pub record Loads (lent : Tables) (b answer : List ℕ) (left : Tables) : Type 0 where
   pub answers : answer ≡ numbers treeNumbers (load lent b)
   pub leaves : left ≡ tablesAfter lent b (load lent b)
+
+-- When a load accepts b as the tree t.
+pub record Accepted (lent : Tables) (b : List ℕ) (t : Tree) : Type 0 where
+  pub encodes : Encodes ours b t
+  pub deep : depth (t .root) ≤ ours .depthLimit b
+  pub reservationsFit : length (t .reserved) ≤ capacity reservationWidth (lent .reservations)
+  pub nodesFit : nodeCount (t .root) ≤ capacity nodeWidth (lent .nodes)
+  pub propertiesFit : propertyCount (t .root) ≤ capacity propertyWidth (lent .properties)
 
 -- What a load answers with unlimited room.
 pub record Measures (b answer : List ℕ) : Type 0 where
