@@ -49,6 +49,12 @@ unfolding _>>=_
 then-same (ok a) f g h = h a refl
 then-same (refused r) f g h = refl
 
+-- a continuation that hands on what it is given
+pub then-self : {A : Type 0} (m : Outcome A) (f : A → Outcome A) → ((a : A) → m ≡ ok a → f a ≡ ok a) → (m >>= f) ≡ m
+unfolding _>>=_
+then-self (ok a) f h = h a refl
+then-self (refused r) f h = refl
+
 -- a step that went well: what it gave, and that the rest went well
 pub step {ℓ} : {A B : Type 0} {C : Type ℓ} (m : Outcome A) (f : A → Outcome B) {y : B} → (m >>= f) ≡ ok y
     → ((a : A) → m ≡ ok a → f a ≡ ok y → C) → C

@@ -14,3 +14,6 @@ pub mod Shape
 pub mod Sizes
 pub mod Load
 pub mod Lookup
+pub mod Tables
+pub mod Told
+pub mod Kept

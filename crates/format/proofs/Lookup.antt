@@ -19,19 +19,13 @@ use Rattle.format.specs.Encodes.{Block, PropertyAt, PropertiesAt, NodeAt
 use Rattle.format.specs.Rows.{NodeRow, PropertyRow, at, propertyAt, firstRow, nodeRows, nodesRows, propertyRow, propertyRows, nodeProperties, nodesProperties, rows}
 use Rattle.format.specs.Find.{head, rest, same, Place, nameOf, propertiesOf, findBelow, findAmong, find-from, placeBelow, placeAmong, placeOf, firstNamed, prop-raw}
 use Rattle.format.specs.Lookup.{linkGood, linksGood, nameInside, nameAt, across, down, reach, partsInside, propertyName, valueSpan, bytesOf, among, propertiesInside, propertyOf}
+use Rattle.format.specs.Agrees.{rowOf, bytesIn}
 use Rattle.format.proofs.Tools.{split, if-yes, if-no}
 use Rattle.format.proofs.Answer.{then-ok, check-ok}
 use Rattle.format.proofs.Bytes.{has-left, has-front-of, value-is}
 use Rattle.format.proofs.Runs.{Run, whole, run-head, run-tail, run-left, run-right}
 use Rattle.format.proofs.Rows.{length-node, length-nodes, node-pos, row-head, first-run, later-run, properties-length, node-properties}
 use Rattle.format.proofs.Sizes.{counts-fit, structure-is, strings-is}
-
--- what the tree's answers are in a table: a row, and the bytes of a part
-unfoldable pub rowOf : Outcome Place → Outcome ℕ
-rowOf m = m >>= λ place. ok (place .row)
-
-unfoldable pub bytesIn : List ℕ → Outcome Span → Outcome (List ℕ)
-bytesIn b m = m >>= λ s. ok (bytesOf b s)
 
 -- ---- one turn of a path lookup, whatever the rows hold
 
@@ -74,14 +68,14 @@ module _ (b : List ℕ) (strings : Block) (R : List NodeRow) (small : length R �
   link-good (n & ns) r k l h = rw (ne-eqb k NONE (omega (arith, node-pos n)), lt-ltb r k l, lt-ltb k (length R) (omega (arith, node-pos n)))
 
   -- what the row of a node says
-  record RowSays (name : List ℕ) (cs : Nodes) (row sibling : ℕ) : Type 0 where
-    inside : row < length R
-    child : at R row .firstChild ≡ firstRow cs (row + 1)
-    next : at R row .nextSibling ≡ sibling
-    named-in : nameInside b R row ≡ true
-    name-is : nameAt b R row ≡ name
+  pub record RowSays (name : List ℕ) (cs : Nodes) (row sibling : ℕ) : Type 0 where
+    pub inside : row < length R
+    pub child : at R row .firstChild ≡ firstRow cs (row + 1)
+    pub next : at R row .nextSibling ≡ sibling
+    pub named-in : nameInside b R row ≡ true
+    pub name-is : nameAt b R row ≡ name
 
-  row-says : (name : List ℕ) (xs : List Property) (cs : Nodes) (p row props parent sibling : ℕ)
+  pub row-says : (name : List ℕ) (xs : List Property) (cs : Nodes) (p row props parent sibling : ℕ)
       → Run R row (nodeRows (node name xs cs) p row props parent sibling) → NodeAt b strings p (node name xs cs) → RowSays name cs row sibling
   unfolding nodeRows NodeAt nameInside nameAt
   row-says name xs cs p row props parent sibling h n =
@@ -201,12 +195,12 @@ module _ (b : List ℕ) (strings : Block) (R : List NodeRow) (small : length R �
 
 module _ (b : List ℕ) (strings : Block) (P : List PropertyRow) where
   -- what the row of a property says
-  record PropertySays (x : Property) (k : ℕ) : Type 0 where
-    inside : partsInside b P k ≡ true
-    name-is : propertyName b P k ≡ x .name
-    value-is : bytesOf b (valueSpan P k) ≡ x .value
+  pub record PropertySays (x : Property) (k : ℕ) : Type 0 where
+    pub inside : partsInside b P k ≡ true
+    pub name-is : propertyName b P k ≡ x .name
+    pub value-is : bytesOf b (valueSpan P k) ≡ x .value
 
-  property-says : (x : Property) (p k : ℕ) (rs : List PropertyRow) → Run P k (propertyRow b (strings .start) p x ∷ rs) → PropertyAt b strings p x → PropertySays x k
+  pub property-says : (x : Property) (p k : ℕ) (rs : List PropertyRow) → Run P k (propertyRow b (strings .start) p x ∷ rs) → PropertyAt b strings p x → PropertySays x k
   unfolding propertyRow propertyAt partsInside propertyName bytesOf valueSpan
   property-says x p k rs h n =
       let e : propertyAt P k ≡ propertyRow b (strings .start) p x = run-head P _ k _ rs h in
@@ -290,11 +284,11 @@ unfolding linkGood
 none-good R r = rw (eq-eqb NONE NONE refl)
 
 module _ (rules : Rules) (b : List ℕ) (t : Tree) (all : AreBytes b) (e : Encodes rules b t) where
-  strings : Block
+  unfoldable pub strings : Block
   strings = record { start = wordAt b stringsAt; end = rules .stringsEnd b }
 
   -- the root, where the header says
-  root-stands : NodeAt b strings (wordAt b structureAt) (t .root)
+  pub root-stands : NodeAt b strings (wordAt b structureAt) (t .root)
   unfolding strings
   root-stands = rw (structure-is rules b t e, strings-is rules b t e) (e .layout .root)
 

@@ -12,3 +12,5 @@ pub mod Load
 pub mod Find
 pub mod Lookup
 pub mod Shape
+pub mod Agrees
+pub mod Kept
