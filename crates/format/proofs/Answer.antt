@@ -1,5 +1,6 @@
 -- Laws of outcomes: what `try!` and `check` give, and that the numbers of an answer determine it. Assumes nothing.
 use mathlib.Core.Path.{_≡_, refl, sym, ap, _∙_}
+use mathlib.Core.Logic.{_≢_}
 use Prim.Native.Nat.{ℕ}
 use native.Mathlib.Omega.{arith}
 use mathlib.Core.List.{List, [], _∷_}
@@ -7,7 +8,7 @@ use mathlib.Core.Bool.{Bool, true, false}
 use Rattle.format.specs.Choice.{if_then_else_}
 use lib.ListN.{length}
 use lib.Dec.{eqb}
-use Rattle.format.specs.Answer.{Refusal, refusalNumbers, Outcome, ok, refused, _>>=_, check, numbers, itself, nothing, Span, place, spanAt, orEmpty, orZero}
+use Rattle.format.specs.Answer.{Refusal, refusalNumbers, Outcome, ok, refused, _>>=_, check, first, numbers, itself, nothing, Span, place, spanAt, orEmpty, orZero}
 use Rattle.format.specs.Answer.{invalidMagicNumber, sizeMismatch, unexpectedEndOfInput, parseError, utf8Error, versionNotSupported, tooDeep, reservationRoom, nodeRoom, propertyRoom, nothingFound, missing0, tooShort, notUsable}
 
 pub never : {A : Type 0} {r : Refusal} {a : A} → refused r ≡ ok a → ⊥
@@ -74,6 +75,25 @@ pub checked : (t : Bool) (r : Refusal) {u : Unit {0}} → check t r ≡ ok u →
 unfolding check
 checked true r e = refl
 checked false r e = absurd (never e)
+
+-- ---- no refusal is numbered 0
+
+pub refusal-not-0 : (r : Refusal) → first (refusalNumbers r) ≢ 0
+unfolding first refusalNumbers
+refusal-not-0 invalidMagicNumber = omega arith
+refusal-not-0 sizeMismatch = omega arith
+refusal-not-0 unexpectedEndOfInput = omega arith
+refusal-not-0 (parseError p) = omega arith
+refusal-not-0 utf8Error = omega arith
+refusal-not-0 versionNotSupported = omega arith
+refusal-not-0 (tooDeep p) = omega arith
+refusal-not-0 (reservationRoom n) = omega arith
+refusal-not-0 (nodeRoom n) = omega arith
+refusal-not-0 (propertyRoom n) = omega arith
+refusal-not-0 nothingFound = omega arith
+refusal-not-0 missing0 = omega arith
+refusal-not-0 tooShort = omega arith
+refusal-not-0 notUsable = omega arith
 
 -- ---- the numbers of an answer determine it, where what a value carries determines the value
 

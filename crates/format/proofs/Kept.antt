@@ -4,15 +4,19 @@ use mathlib.Core.Path.{_≡_, refl, sym, ap, _∙_, subst}
 use Prim.Native.Nat.{ℕ, _<_}
 use mathlib.Core.List.{List, [], _∷_}
 use mathlib.Core.Option.{Option, none, some}
-use Rattle.format.specs.Answer.{Refusal, refusalNumbers, Outcome, ok, refused, numbers}
-use Rattle.format.specs.Answer.{invalidMagicNumber, sizeMismatch, unexpectedEndOfInput, parseError, utf8Error, versionNotSupported, tooDeep, reservationRoom, nodeRoom, propertyRoom, nothingFound, missing0, tooShort, notUsable}
+use lib.Dec.{eqb}
+use borrow.Author.Tests.{eq-eqb, ne-eqb}
+use Rattle.format.specs.Choice.{if_then_else_}
+use Rattle.format.specs.Answer.{Refusal, refusalNumbers, Outcome, ok, refused, numbers, first}
 use Rattle.format.specs.Bytes.{AreBytes}
 use Rattle.format.specs.Tree.{Tree, nodeCount, propertyCount}
 use Rattle.format.specs.Rules.{ours}
 use Rattle.format.specs.Rows.{nodesIn}
-use Rattle.format.specs.Load.{Tables, treeNumbers, load, tablesAfter, Loads, Accepted, Call, Calls, newer, lastAccepted}
+use Rattle.format.specs.Load.{Tables, treeNumbers, load, tablesAfter, Loads, Accepted, Call, Calls, lastAccepted}
 use Rattle.format.specs.Shape.{IsTree, NodeTold, Holds}
 use Rattle.format.specs.Kept.{Kept, KeptIfAny}
+use Rattle.format.proofs.Tools.{if-yes, if-no}
+use Rattle.format.proofs.Answer.{refusal-not-0}
 use Rattle.format.proofs.Load.{accepted, refused-leaves}
 use Rattle.format.proofs.Sizes.{rows-shape}
 use Rattle.format.proofs.Told.{rows-tell}
@@ -42,44 +46,22 @@ accepted-kept lent c t e l =
       lookups = λ i h. rw left (lookups-as-the-tree (c .blob) t lent (c .bytes) a i h);
     }
 
--- a call that was answered 0 is the newest; no refusal is 0
-accepted-newer : (c : Call) (t : Tree) (before : Option Call) → newer c (numbers treeNumbers (ok t)) before ≡ some c
-unfolding newer numbers
-accepted-newer c t before = refl
-
-refused-newer : (c : Call) (r : Refusal) (before : Option Call) → newer c (refusalNumbers r) before ≡ before
-unfolding newer refusalNumbers
-refused-newer c invalidMagicNumber before = refl
-refused-newer c sizeMismatch before = refl
-refused-newer c unexpectedEndOfInput before = refl
-refused-newer c (parseError p) before = refl
-refused-newer c utf8Error before = refl
-refused-newer c versionNotSupported before = refl
-refused-newer c (tooDeep p) before = refl
-refused-newer c (reservationRoom n) before = refl
-refused-newer c (nodeRoom n) before = refl
-refused-newer c (propertyRoom n) before = refl
-refused-newer c nothingFound before = refl
-refused-newer c missing0 before = refl
-refused-newer c tooShort before = refl
-refused-newer c notUsable before = refl
-
 one-call : (lent : Tables) (c : Call) (before : Option Call) → KeptIfAny lent before → Loads lent (c .blob) (c .answer) (c .left)
-    → (m : Outcome Tree) → load lent (c .blob) ≡ m → KeptIfAny (c .left) (newer c (c .answer) before)
-unfolding KeptIfAny numbers
+    → (m : Outcome Tree) → load lent (c .blob) ≡ m → KeptIfAny (c .left) (if eqb (first (c .answer)) 0 then some c else before)
+unfolding KeptIfAny numbers first
 one-call lent c before kept l (ok t) e =
-    let answer : c .answer ≡ numbers treeNumbers (ok t) = l .answers ∙ ap (numbers treeNumbers) e in
-    subst (λ o. KeptIfAny (c .left) o) (sym (ap (λ ns. newer c ns before) answer ∙ accepted-newer c t before)) (accepted-kept lent c t e l)
+    let answer : c .answer ≡ 0 ∷ treeNumbers t = l .answers ∙ ap (numbers treeNumbers) e in
+    subst (KeptIfAny (c .left)) (sym (if-yes (some c) before (eq-eqb _ 0 (ap first answer)))) (accepted-kept lent c t e l)
 one-call lent c before kept l (refused r) e =
     let answer : c .answer ≡ refusalNumbers r = l .answers ∙ ap (numbers treeNumbers) e in
-    subst (λ o. KeptIfAny (c .left) o) (sym (ap (λ ns. newer c ns before) answer ∙ refused-newer c r before))
+    subst (KeptIfAny (c .left)) (sym (if-no (some c) before (ne-eqb _ 0 (λ zero. refusal-not-0 r (sym (ap first answer) ∙ zero)))))
     (subst (λ held. KeptIfAny held before) (sym (refused-leaves l e)) kept)
 
 all-calls : (cs : List Call) (first last : Tables) (before : Option Call) → KeptIfAny first before → Calls first cs last → KeptIfAny last (lastAccepted before cs)
 unfolding Calls lastAccepted
 all-calls [] first last before kept h = rw h kept
 all-calls (c ∷ cs) first last before kept h =
-    all-calls cs (c .left) last (newer c (c .answer) before) (one-call first c before kept (h .0) (load first (c .blob)) refl) (h .1)
+    all-calls cs (c .left) last _ (one-call first c before kept (h .0) (load first (c .blob)) refl) (h .1)
 
 -- The theorem.
 pub demand3 : (first : Tables) (cs : List Call) (last : Tables) → Calls first cs last → (c : Call) → lastAccepted none cs ≡ some c → Kept last c

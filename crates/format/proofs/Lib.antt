@@ -17,3 +17,5 @@ pub mod Lookup
 pub mod Tables
 pub mod Told
 pub mod Kept
+pub mod Reached
+pub mod Cases

@@ -14,3 +14,4 @@ pub mod Lookup
 pub mod Shape
 pub mod Agrees
 pub mod Kept
+pub mod Cases

@@ -1,14 +1,15 @@
 -- A load into lent tables: its answer, and what the tables hold afterwards; and loads one after another.
 use mathlib.Core.Path.{_≡_}
-use Prim.Native.Nat.{ℕ, zero, suc, _/_, _≤_}
+use Prim.Native.Nat.{ℕ, _/_, _≤_}
 use mathlib.Core.List.{List, [], _∷_}
 use mathlib.Core.Option.{Option, none, some}
 use lib.ListN.{length}
 use lib.Seq.{sets}
-use lib.Dec.{leb}
+use lib.Dec.{eqb, leb}
+use Rattle.format.specs.Choice.{if_then_else_}
 use Rattle.format.specs.Bytes.{AreBytes}
 use Rattle.format.specs.Format.{version, reservationWidth, nodeWidth, propertyWidth}
-use Rattle.format.specs.Answer.{Outcome, ok, refused, _>>=_, check, numbers, reservationRoom, nodeRoom, propertyRoom}
+use Rattle.format.specs.Answer.{Outcome, ok, refused, _>>=_, check, numbers, first, reservationRoom, nodeRoom, propertyRoom}
 use Rattle.format.specs.Tree.{Tree, depth, nodeCount, propertyCount}
 use Rattle.format.specs.Rules.{ours}
 use Rattle.format.specs.Encodes.{Encodes}
@@ -83,11 +84,6 @@ Calls first [] last = last ≡ first
 Calls first (c ∷ cs) last = Loads first (c .blob) (c .answer) (c .left) × Calls (c .left) cs last
 
 -- the last call that was answered 0, or else `before`
-unfoldable pub newer : Call → List ℕ → Option Call → Option Call
-newer c [] before = before
-newer c (zero ∷ ns) before = some c
-newer c (suc n ∷ ns) before = before
-
 unfoldable pub lastAccepted : Option Call → List Call → Option Call
 lastAccepted before [] = before
-lastAccepted before (c ∷ cs) = lastAccepted (newer c (c .answer) before) cs
+lastAccepted before (c ∷ cs) = lastAccepted (if eqb (first (c .answer)) 0 then some c else before) cs

@@ -41,6 +41,17 @@ across b R (suc turns) r first later =
     else across b R turns (at R r .nextSibling) first later)
     else refused notUsable)
 
+-- the rows whose names are compared on the way
+unfoldable pub compared : List ℕ → List NodeRow → ℕ → ℕ → List ℕ → List ℕ → List ℕ
+compared b R zero r first later = []
+compared b R (suc turns) r first later =
+    if eqb r NONE then []
+    else (if linksGood R r && nameInside b R r
+    then (r ∷ (if same (nameAt b R r) first
+    then (elim later [ [] ↦ [] | c ∷ s ↦ compared b R turns (at R r .firstChild) (head (c ∷ s)) (rest (c ∷ s)) ])
+    else compared b R turns (at R r .nextSibling) first later))
+    else [])
+
 -- a path from a row that is reached and judged
 unfoldable pub down : List ℕ → List NodeRow → ℕ → List ℕ → Outcome ℕ
 down b R r [] = ok r
