@@ -19,3 +19,5 @@ pub mod Told
 pub mod Kept
 pub mod Reached
 pub mod Cases
+pub mod Find
+pub mod Names
