@@ -1,7 +1,7 @@
 -- "One that isn't UTF-8 finds nothing in a loaded tree": what a path or a name finds was compared with names of the tree, which are
 -- UTF-8, so the path or the name is. Assumes nothing.
 use mathlib.Core.Path.{_≡_, refl, sym, ap, _∙_, subst}
-use Prim.Native.Nat.{ℕ, _+_}
+use Prim.Native.Nat.{ℕ, _+_, _<_}
 use native.Mathlib.Omega.{arith}
 use mathlib.Core.List.{List, [], _∷_, _++_}
 use mathlib.Core.Bool.{Bool, true, false, _&&_}
@@ -10,13 +10,18 @@ use lib.Dec.{eqb}
 use borrow.Author.Tests.{eqb-true}
 use Rattle.format.specs.Choice.{if_then_else_}
 use Rattle.format.specs.Answer.{Outcome, ok, refused, nothingFound, _>>=_}
+use Rattle.format.specs.Bytes.{AreBytes}
 use Rattle.format.specs.Utf8.{Utf8, end, utf8-1, utf8-2, utf8-3-E0, utf8-3-E1, utf8-3-ED, utf8-3-EE, utf8-4-F0, utf8-4-F1, utf8-4-F4, from-utf8}
 use Rattle.format.specs.Tree.{Property, Node, node, Nodes, none, _&_, nodeCount, Tree}
 use Rattle.format.specs.Encodes.{GoodName, GoodProperties, GoodNode, GoodNodes, afterName, afterProperties, afterNode}
-use Rattle.format.specs.Find.{SLASH, head, rest, same, Place, nameOf, findBelow, findAmong, firstNamed}
+use Rattle.format.specs.Find.{SLASH, head, rest, same, Place, nameOf, propertiesOf, findBelow, findAmong, find-from, placeBelow, placeAmong, placeOf, firstNamed, prop-raw}
+use Rattle.format.specs.Load.{Tables, tablesAfter, Accepted}
+use Rattle.format.specs.Lookup as table
+use Rattle.format.specs.Agrees.{rowOf, bytesIn, used}
 use Rattle.format.proofs.Tools.{both, never-both, tested, if-yes, if-no, if-went}
-use Rattle.format.proofs.Answer.{never}
+use Rattle.format.proofs.Answer.{never, ok-same}
 use Rattle.format.proofs.Utf8.{utf8-exact}
+use Rattle.format.proofs.Tables.{lookups-as-the-tree}
 
 same-is : (xs ys : List ℕ) → same xs ys ≡ true → xs ≡ ys
 unfolding same
@@ -120,9 +125,48 @@ not-found : {A : Type 0} (s : List ℕ) (m : Outcome A) → Found m → ((a : A)
 not-found s m nothing h bad = refl
 not-found s m (found a) h bad = absurd (never-both bad (utf8-exact s .1 (h a refl)))
 
--- The two claims.
+-- The two claims, in a tree.
 pub bad-path-finds-nothing : (n : Node) (row p : ℕ) (path : List ℕ) → GoodNode n → from-utf8 path ≡ false → findBelow n row p path ≡ refused nothingFound
 bad-path-finds-nothing n row p path good bad = not-found path _ (path-found n row p path) (λ place e. found-utf8 n row p path place good e) bad
 
 pub bad-name-finds-nothing : (xs : List Property) (name : List ℕ) → GoodProperties xs → from-utf8 name ≡ false → firstNamed xs name ≡ refused nothingFound
 bad-name-finds-nothing xs name good bad = not-found name _ (name-found xs name) (λ value e. name-utf8 xs name value good e) bad
+
+-- ---- and on the tables that an accepted load left
+
+properties-good : (n : Node) → GoodNode n → GoodProperties (propertiesOf n)
+unfolding GoodNode propertiesOf
+properties-good (node name xs cs) good = good .1
+
+mutual
+  unfolding placeBelow GoodNode
+
+  place-good : (n : Node) (row p i : ℕ) (start : Place) → GoodNode n → placeBelow n row p i ≡ ok start → GoodNode (start .here)
+  place-good (node name xs cs) row p i start good e =
+      if-went _ _ _ e
+      (λ t e. subst (λ (at : Place). GoodNode (at .here)) (ok-same e) good)
+      (λ t e. among-good cs _ _ i start (good .2) e)
+
+  among-good : (ns : Nodes) (row p i : ℕ) (start : Place) → GoodNodes ns → placeAmong ns row p i ≡ ok start → GoodNode (start .here)
+  among-good none row p i start good e = absurd (never e)
+  among-good (n & ns) row p i start good e =
+      if-went _ _ _ e
+      (λ t e. place-good n row p i start (good .0) e)
+      (λ t e. among-good ns _ _ i start (good .1) e)
+
+module _ (b : List ℕ) (t : Tree) (lent : Tables) (all : AreBytes b) (a : Accepted lent b t) where
+  pub bad-path-in-tables : (i : ℕ) (path : List ℕ) → i < nodeCount (t .root) → from-utf8 path ≡ false
+      → table.find-from b (tablesAfter lent b (ok t) .nodes) (nodeCount (t .root)) i path ≡ refused nothingFound
+  unfolding placeOf find-from rowOf _>>=_
+  bad-path-in-tables i path h bad =
+      let s = lookups-as-the-tree b t lent all a i h in
+      let good = place-good (t .root) 0 _ i (s .start) (a .encodes .good .names) (s .is) in
+      s .find-from path ∙ ap rowOf (bad-path-finds-nothing (s .start .here) (s .start .row) (s .start .position) path good bad)
+
+  pub bad-name-in-tables : (i : ℕ) (name : List ℕ) → i < nodeCount (t .root) → from-utf8 name ≡ false
+      → bytesIn b (table.prop-raw b (used (tablesAfter lent b (ok t)) t) i name) ≡ refused nothingFound
+  unfolding placeOf prop-raw
+  bad-name-in-tables i name h bad =
+      let s = lookups-as-the-tree b t lent all a i h in
+      let good = place-good (t .root) 0 _ i (s .start) (a .encodes .good .names) (s .is) in
+      s .prop-raw name ∙ bad-name-finds-nothing (propertiesOf (s .start .here)) name (properties-good (s .start .here) good) bad
