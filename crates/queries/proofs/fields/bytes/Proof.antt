@@ -1,0 +1,45 @@
+-- `queries::fields::bytes` meets its contract: each test is one of the definition's, in its order. Assumes nothing.
+use native.Mathlib.Omega.{arith}
+use borrow.Author.Needs.{needs}
+use lib.ListN.{length}
+use Rattle.queries.specs.Fields.{Put}
+use Rattle.queries.proofs.FieldLaws.{bytes-empty, bytes-none, bytes-one, bytes-odd, bytes-long, bytes-pairs}
+use Rattle.queries.proofs.fields.bytes.Statement.{statement}
+use Rattle.queries.proofs.fields.bytes.Tie as tie
+
+returns : tie.Need-returns
+unfolding Put
+returns c = bytes-empty (length (c .before .before .before .args .out .now)) (c .before .before .before .args .s .now) (omega arith)
+
+returns-2 : tie.Need-returns-2
+unfolding Put
+returns-2 c = (omega arith, bytes-none (length (c .before .before .before .before .before .before .args .out .now)) (c .before .before .before .before .before .before .args .s .now) (omega arith) (c .if3 .taken))
+
+returns-3 : tie.Need-returns-3
+unfolding Put
+returns-3 c = bytes-one (length (c .before .before .before .before .before .before .args .out .now)) (c .before .before .before .before .before .before .args .s .now) (omega arith) (c .if3 .left)
+
+returns-4 : tie.Need-returns-4
+unfolding Put
+returns-4 c = bytes-odd (length (c .before .before .before .before .before .args .out .now)) (c .before .before .before .before .before .args .s .now) (λ e. omega arith) (omega arith)
+
+returns-5 : tie.Need-returns-5
+unfolding Put
+returns-5 c = bytes-long (length (c .before .before .before .before .before .before .args .out .now)) (c .before .before .before .before .before .before .args .s .now) (omega arith) (λ e. omega arith) (omega arith)
+
+returns-6 : tie.Need-returns-6
+returns-6 c = rw (bytes-pairs (length (c .before .before .before .before .before .before .before .before .before .before .args .out .now)) (c .before .before .before .before .before .before .before .before .before .before .args .s .now) (omega arith) (λ e. omega arith) (omega arith)) (c .before .before .pairs .ensures)
+
+pub bytes-spec : {M : Type 1} → statement M
+bytes-spec =
+    tie.close
+    (tie.spec
+    returns
+    (λ c. search needs)
+    returns-2
+    returns-3
+    returns-4
+    returns-5
+    (λ c κs. search needs)
+    (λ c. search needs)
+    returns-6)

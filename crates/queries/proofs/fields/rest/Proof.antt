@@ -1,0 +1,29 @@
+-- `queries::fields::rest` meets its contract. Assumes nothing.
+use Prim.Native.Nat.{_+_}
+use native.Mathlib.Omega.{arith}
+use mathlib.Core.Path.{_∙_, sym}
+use Rattle.queries.proofs.FieldLaws.{tail-whole, tail-none}
+use borrow.Author.Needs.{needs}
+use Rattle.queries.proofs.fields.rest.Statement.{statement}
+use Rattle.queries.proofs.fields.rest.Tie as tie
+
+returns : tie.Need-returns
+returns c = tail-none (c .before .before .before .before .args .s .now) (c .before .before .end .result) (omega arith) ∙ sym (c .before .before .end .ensures .rest)
+
+returns-2 : tie.Need-returns-2
+returns-2 c = tail-whole (c .before .before .before .before .args .s .now) (c .before .before .end .result + 1) ∙ sym (c .before .before .end .ensures .rest)
+
+pub rest-spec : {M : Type 1} → statement M
+rest-spec =
+    tie.close
+    (tie.spec
+    (λ c κs. search needs)
+    (λ c. search needs)
+    (λ c. search needs)
+    (λ c. search needs)
+    returns
+    (λ c. search needs)
+    (λ c. search needs)
+    (λ c. search needs)
+    (λ c. search needs)
+    returns-2)

@@ -1,0 +1,31 @@
+-- `queries::letters::read_bstring0` meets its contract: the fields, and what `reader::read_bstring0` makes of them. Assumes nothing.
+use mathlib.Core.Path.{_∙_, sym, ap}
+use mathlib.Core.List.{List}
+use borrow.Author.Needs.{needs}
+use Prim.Native.Nat.{ℕ}
+use Rattle.queries.specs.Replies.{answerNumbers, string}
+use Rattle.queries.proofs.ReplyLaws.{bounded-bad, bounded-at}
+use Rattle.queries.proofs.letters.read_bstring0.Statement.{statement}
+use Rattle.queries.proofs.letters.read_bstring0.Tie as tie
+
+returns : tie.Need-returns
+unfolding answerNumbers
+returns c = sym (bounded-bad string (c .before .before .before .before .bytes-and-position .result) (c .before .before .before .before .bytes-and-position .last .1 .0) (c .enum-told .given .1)) ∙ c .before .before .before .before .bytes-and-position .ensures string
+
+returns-2 : tie.Need-returns-2
+returns-2 c = c .of-span .ensures ∙ c .before .read-bstring0 .ensures ∙ ap (λ (l : List ℕ). string l (c .before .before .before .before .before .len .given .0 .1 .0)) (c .before .before .upto .ensures) ∙ sym (bounded-at string (c .before .before .before .before .before .before .before .before .before .bytes-and-position .result) (c .before .before .before .before .before .before .before .before .before .bytes-and-position .last .1 .0) (c .before .before .before .before .before .len .given .0 .0) (c .before .before .before .before .before .len .given .0 .1 .0) (c .before .before .before .before .before .len .given .1)) ∙ c .before .before .before .before .before .before .before .before .before .bytes-and-position .ensures string
+
+pub read-bstring0-spec : {M : Type 1} → statement M
+read-bstring0-spec =
+    tie.close
+    (tie.spec
+    (λ c κs. search needs)
+    (λ c. search needs)
+    (λ c. search needs)
+    (λ c κs. search needs)
+    (λ c κs. search needs)
+    (λ c κs. search needs)
+    (λ c. search needs)
+    returns
+    (λ c. search needs)
+    returns-2)

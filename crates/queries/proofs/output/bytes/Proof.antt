@@ -1,0 +1,29 @@
+-- `queries::output::bytes` is safe and ends: each byte leaves the buffer with room. Assumes nothing.
+use Prim.Native.Nat.{_≤_, _-_}
+use borrow.Author.Needs.{needs}
+use mathlib.Core.Path.{_≡_}
+use lib.ListN.{length}
+use Rattle.queries.specs.Buffers.{Room}
+use Rattle.queries.proofs.output.bytes.Statement.{statement}
+use Rattle.queries.proofs.output.bytes.Tie as tie
+
+abbrev Inv-loop : tie.InvT-loop
+Inv-loop text₀ s out₀ i₀ text out i = ((i ≤ length s) × Room out text) × (length text ≡ length text₀)
+
+abbrev μ-loop : tie.MeasureT-loop
+μ-loop text₀ s out₀ i₀ text out i = length s - i
+
+pub bytes-spec : {M : Type 1} → statement M
+bytes-spec =
+    tie.close
+    (tie.spec
+    Inv-loop
+    μ-loop
+    (λ c. search needs)
+    (λ c. search needs)
+    (λ c κs. search needs)
+    (λ c. search needs)
+    (λ c. search needs)
+    (λ c. search needs)
+    (λ c. search needs)
+    (λ c. search needs))

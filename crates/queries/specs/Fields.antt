@@ -1,0 +1,74 @@
+-- What a field of a query line spells: a number in decimal digits, or bytes in hexadecimal digits. Assumes nothing.
+use Prim.Native.Nat.{ℕ, suc, _+_, _*_, _-_, _%_, _^_, _≤_, _<_}
+use mathlib.Core.Path.{_≡_}
+use mathlib.Core.Bool.{Bool, cond, true, false}
+use mathlib.Core.List.{List, [], _∷_, _++_}
+use mathlib.Core.Option.{Option, none, some}
+use lib.Dec.{eqb, leb, ltb}
+use lib.ListN.{length, take, drop, getD}
+use Rattle.queries.specs.declared.fields.Number.{Number}
+use Rattle.queries.specs.declared.fields.Number.the-variants as number
+use Rattle.queries.specs.declared.fields.Count.{Count}
+use Rattle.queries.specs.declared.fields.Count.the-variants as count
+
+-- the first field of a line: what stands before its first space (32)
+unfoldable pub firstOf : List ℕ → List ℕ
+firstOf [] = []
+firstOf (b ∷ s) = cond (eqb b 32) [] (b ∷ firstOf s)
+
+-- what follows the first field and its space
+unfoldable pub restOf : List ℕ → List ℕ
+restOf [] = []
+restOf (b ∷ s) = cond (eqb b 32) s (restOf s)
+
+-- the first field of s ends there
+pub record Ends (s : List ℕ) (end : ℕ) : Type 0 where
+  pub within : end ≤ length s
+  pub first : firstOf s ≡ take end s
+  pub rest : restOf s ≡ drop (end + 1) s
+
+-- the value of a hexadecimal digit, `0` to `9`, `a` to `f` or `A` to `F`, and 16 for any other byte
+unfoldable pub digitOf : ℕ → ℕ
+digitOf b =
+    cond (ltb b 48) 16
+    (cond (leb b 57) (b - 48)
+    (cond (ltb b 65) 16 (cond (leb b 70) (b - 65 + 10) (cond (ltb b 97) 16 (cond (leb b 102) (b - 97 + 10) 16)))))
+
+-- "decimal numbers up to 18446744073709551615": the digits s, after digits that spell n
+unfoldable pub numberFrom : ℕ → List ℕ → Number
+numberFrom n [] = number.Is n
+numberFrom n (b ∷ s) =
+    cond (leb (digitOf b) 9)
+    (cond (ltb (n * 10 + digitOf b) (2 ^ 64)) (numberFrom (n * 10 + digitOf b) s) number.Bad)
+    number.Bad
+
+-- 1 to 20 digits
+unfoldable pub numberOf : List ℕ → Number
+numberOf s = cond (eqb (length s) 0) number.Bad (cond (ltb 20 (length s)) number.Bad (numberFrom 0 s))
+
+-- bytes, and those that follow them if there are any
+unfoldable pub before : List ℕ → Option (List ℕ) → Option (List ℕ)
+before xs none = none
+before xs (some ys) = some (xs ++ ys)
+
+-- two digits a byte
+unfoldable pub pairsOf : List ℕ → Option (List ℕ)
+pairsOf [] = some []
+pairsOf (a ∷ []) = none
+pairsOf (a ∷ b ∷ s) =
+    cond (ltb (digitOf a) 16)
+    (cond (ltb (digitOf b) 16) (before ((digitOf a * 16 + digitOf b) ∷ []) (pairsOf s)) none)
+    none
+
+-- what was put at the start of out, where n bytes were, is what was spelled; and nothing is spelled where it is bad
+unfoldable pub Put : Count → Option (List ℕ) → List ℕ → Type 0
+Put (count.Is n) spelled out = (n ≤ length out) × (spelled ≡ some (take n out))
+Put count.Bad spelled out = spelled ≡ none
+
+-- "`-` for the empty one", or an even count of digits, no more than there is room for
+unfoldable pub bytesOf : ℕ → List ℕ → Option (List ℕ)
+bytesOf room s =
+    cond (eqb (length s) 0) none
+    (cond (eqb (length s) 1)
+    (cond (eqb (getD s 0 0) 45) (some []) none)
+    (cond (eqb (length s % 2) 1) none (cond (ltb (room * 2) (length s)) none (pairsOf s))))

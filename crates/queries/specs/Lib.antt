@@ -1,0 +1,4 @@
+-- What the contracts of `queries` cite.
+pub mod Buffers
+pub mod Fields
+pub mod Replies

@@ -1,0 +1,5 @@
+-- What the promises cite (Numbers), what callers turn them into (Outcomes), and what private contracts cite (Parts, Expected).
+pub mod Numbers
+pub mod Outcomes
+pub mod Parts
+pub mod Expected
