@@ -1,21 +1,21 @@
 -- A load accepts a blob exactly when it encodes some tree and depth and room suffice; a refusal leaves the tables; the answer and the
 -- tables are determined. Assumes, for acceptance, that the blob's elements are bytes.
 use mathlib.Core.Path.{_≡_, refl, sym, ap, _∙_, subst}
-use mathlib.Core.Logic.{_↔_}
-use Prim.Native.Nat.{ℕ, _≤_, _*_, _/_}
+use mathlib.Core.Logic.{_↔_, _⊎_, inl, inr, ⊎-elim}
+use Prim.Native.Nat.{ℕ, _≤_, _<_, _*_, _/_}
 use native.Mathlib.Nat.{le-trans, mul-comm, mul-le-mul-left, div-mul-le-self}
 use mathlib.Core.List.{List}
 use lib.ListN.{length}
 use lib.Dec.{leb}
-use borrow.Author.Tests.{leb-true, le-leb}
+use borrow.Author.Tests.{leb-true, leb-false, le-leb, lt-leb}
 use Rattle.format.specs.Bytes.{AreBytes}
 use Rattle.format.specs.Format.{reservationWidth, nodeWidth, propertyWidth}
-use Rattle.format.specs.Answer.{Refusal, Outcome, ok, refused, numbers}
-use Rattle.format.specs.Tree.{Tree}
+use Rattle.format.specs.Answer.{Refusal, reservationRoom, nodeRoom, propertyRoom, Outcome, ok, refused, _>>=_, numbers}
+use Rattle.format.specs.Tree.{Tree, nodeCount, propertyCount}
 use Rattle.format.specs.Rules.{ours}
-use Rattle.format.specs.Load.{Tables, treeNumbers, capacity, room, load, tablesAfter, Loads, Measures, Accepted}
+use Rattle.format.specs.Load.{Tables, treeNumbers, capacity, room, load, tablesAfter, Loads, Measures, Accepted, NoRoom, reservations, nodes, properties}
 use Rattle.format.specs.Read as read
-use Rattle.format.proofs.Answer.{ok-same, step, then-ok, then-refused, checked, check-ok}
+use Rattle.format.proofs.Answer.{never, ok-same, step, then-ok, then-refused, checked, check-ok, check-no, check-went}
 use Rattle.format.proofs.Sound.{sound}
 use Rattle.format.proofs.Complete.{complete}
 
@@ -45,6 +45,45 @@ accepted lent b all t = (there, back)
         (then-ok _ _ (check-ok _ (le-leb _ _ (a .reservationsFit)))
         (then-ok _ _ (check-ok _ (le-leb _ _ (a .nodesFit)))
         (then-ok _ _ (check-ok _ (le-leb _ _ (a .propertiesFit))) refl)))
+
+-- Demand 2, each refusal: it is the first failure of reading, or what was read has no room.
+pub record Roomless (lent : Tables) (b : List ℕ) (r : Refusal) : Type 0 where
+  pub tree : Tree
+  pub read-as : read.load ours b ≡ ok tree
+  pub why : NoRoom lent tree r
+
+room-refuses : (lent : Tables) (t : Tree) (r : Refusal) → room lent t ≡ refused r → NoRoom lent t r
+unfolding room
+room-refuses lent t r e =
+    check-went _ _ _ e
+    (λ full same. subst (NoRoom lent t) same (reservations (leb-false _ _ full)))
+    λ r-fits e.
+    check-went _ _ _ e
+    (λ full same. subst (NoRoom lent t) same (nodes (leb-true _ _ r-fits) (leb-false _ _ full)))
+    λ n-fits e.
+    check-went _ _ _ e
+    (λ full same. subst (NoRoom lent t) same (properties (leb-true _ _ r-fits) (leb-true _ _ n-fits) (leb-false _ _ full)))
+    λ _ e. absurd (never (sym e))
+
+no-room : (lent : Tables) (t : Tree) {r : Refusal} → NoRoom lent t r → room lent t ≡ refused r
+unfolding room
+no-room lent t (reservations full) = then-refused _ _ (check-no _ (lt-leb _ _ full))
+no-room lent t (nodes r-fits full) = then-ok _ _ (check-ok _ (le-leb _ _ r-fits)) (then-refused _ _ (check-no _ (lt-leb _ _ full)))
+no-room lent t (properties r-fits n-fits full) =
+    then-ok _ _ (check-ok _ (le-leb _ _ r-fits)) (then-ok _ _ (check-ok _ (le-leb _ _ n-fits)) (then-refused _ _ (check-no _ (lt-leb _ _ full))))
+
+refusal-of : (lent : Tables) (b : List ℕ) (r : Refusal) (m : Outcome Tree) → read.load ours b ≡ m → (m >>= λ t. room lent t) ≡ refused r
+    → (read.load ours b ≡ refused r) ⊎ Roomless lent b r
+unfolding _>>=_
+refusal-of lent b r (ok t) e h = inr (record { tree = t; read-as = e; why = room-refuses lent t r h })
+refusal-of lent b r (refused s) e h = inl (e ∙ h)
+
+pub each-refusal : (lent : Tables) (b : List ℕ) (r : Refusal) → (load lent b ≡ refused r) ↔ ((read.load ours b ≡ refused r) ⊎ Roomless lent b r)
+unfolding load
+each-refusal lent b r = (
+  λ e. refusal-of lent b r (read.load ours b) refl e,
+  λ w. ⊎-elim (λ e. then-refused _ _ e) (λ w. then-ok _ _ (w .read-as) (no-room lent (w .tree) (w .why))) w,
+)
 
 -- Demand 1: a refused load leaves its tables as they were.
 pub refused-leaves : {lent left : Tables} {b answer : List ℕ} {r : Refusal} → Loads lent b answer left → load lent b ≡ refused r → left ≡ lent

@@ -1,6 +1,6 @@
 -- A load into lent tables: its answer, and what the tables hold afterwards; and loads one after another.
 use mathlib.Core.Path.{_≡_}
-use Prim.Native.Nat.{ℕ, _/_, _≤_}
+use Prim.Native.Nat.{ℕ, _/_, _≤_, _<_}
 use mathlib.Core.List.{List, [], _∷_}
 use mathlib.Core.Option.{Option, none, some}
 use lib.ListN.{length}
@@ -9,7 +9,7 @@ use lib.Dec.{eqb, leb}
 use Rattle.format.specs.Choice.{if_then_else_}
 use Rattle.format.specs.Bytes.{AreBytes}
 use Rattle.format.specs.Format.{version, reservationWidth, nodeWidth, propertyWidth}
-use Rattle.format.specs.Answer.{Outcome, ok, refused, _>>=_, check, numbers, first, reservationRoom, nodeRoom, propertyRoom}
+use Rattle.format.specs.Answer.{Refusal, Outcome, ok, refused, _>>=_, check, numbers, first, reservationRoom, nodeRoom, propertyRoom}
 use Rattle.format.specs.Tree.{Tree, depth, nodeCount, propertyCount}
 use Rattle.format.specs.Rules.{ours}
 use Rattle.format.specs.Encodes.{Encodes}
@@ -65,6 +65,14 @@ pub record Accepted (lent : Tables) (b : List ℕ) (t : Tree) : Type 0 where
   pub reservationsFit : length (t .reserved) ≤ capacity reservationWidth (lent .reservations)
   pub nodesFit : nodeCount (t .root) ≤ capacity nodeWidth (lent .nodes)
   pub propertiesFit : propertyCount (t .root) ≤ capacity propertyWidth (lent .properties)
+
+-- Why a tree that was read has no room, in the order in which it is judged.
+pub data NoRoom (lent : Tables) (t : Tree) : Refusal → Type 0 where
+  reservations : capacity reservationWidth (lent .reservations) < length (t .reserved) → NoRoom lent t (reservationRoom (length (t .reserved)))
+  nodes : length (t .reserved) ≤ capacity reservationWidth (lent .reservations)
+      → capacity nodeWidth (lent .nodes) < nodeCount (t .root) → NoRoom lent t (nodeRoom (nodeCount (t .root)))
+  properties : length (t .reserved) ≤ capacity reservationWidth (lent .reservations) → nodeCount (t .root) ≤ capacity nodeWidth (lent .nodes)
+      → capacity propertyWidth (lent .properties) < propertyCount (t .root) → NoRoom lent t (propertyRoom (propertyCount (t .root)))
 
 -- What a load answers with unlimited room.
 pub record Measures (b answer : List ℕ) : Type 0 where
