@@ -164,3 +164,9 @@ spanBack (n ∷ ns) = record { offset = n; size = carried ns }
 pub place-same : (m n : Outcome Span) → numbers place m ≡ numbers place n → m ≡ n
 unfolding place spanBack carried
 place-same = numbers-same place spanBack (λ s. refl)
+
+-- the numbers of a refusal are a refusal's, whatever a value carries
+pub numbers-refused : {A : Type 0} (carries : A → List ℕ) (m : Outcome A) (r : Refusal) → numbers carries m ≡ refusalNumbers r → m ≡ refused r
+unfolding numbers first
+numbers-refused carries (ok a) r e = absurd (refusal-not-0 r (sym (ap first e)))
+numbers-refused carries (refused s) r e = ap refused (refused-same (nothing-same (refused s) (refused r) e))

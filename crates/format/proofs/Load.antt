@@ -3,14 +3,16 @@
 use mathlib.Core.Path.{_≡_, refl, sym, ap, _∙_, subst}
 use mathlib.Core.Logic.{_↔_, _⊎_, inl, inr, ⊎-elim}
 use Prim.Native.Nat.{ℕ, _≤_, _<_, _*_, _/_}
+use native.Mathlib.Omega.{arith}
 use native.Mathlib.Nat.{le-trans, mul-comm, mul-le-mul-left, div-mul-le-self}
 use mathlib.Core.List.{List}
+use mathlib.Core.Bool.{Bool, true, false}
 use lib.ListN.{length}
 use lib.Dec.{leb}
 use borrow.Author.Tests.{leb-true, leb-false, le-leb, lt-leb}
 use Rattle.format.specs.Bytes.{AreBytes}
 use Rattle.format.specs.Format.{reservationWidth, nodeWidth, propertyWidth}
-use Rattle.format.specs.Answer.{Refusal, reservationRoom, nodeRoom, propertyRoom, Outcome, ok, refused, _>>=_, numbers}
+use Rattle.format.specs.Answer.{Refusal, reservationRoom, nodeRoom, propertyRoom, refusalNumbers, first, code, Outcome, ok, refused, _>>=_, check, numbers}
 use Rattle.format.specs.Tree.{Tree, nodeCount, propertyCount}
 use Rattle.format.specs.Rules.{ours}
 use Rattle.format.specs.Load.{Tables, treeNumbers, capacity, room, load, tablesAfter, Loads, Measures, Accepted, NoRoom, reservations, nodes, properties}
@@ -98,14 +100,42 @@ loads-determined l l′ = (l .answers ∙ sym (l′ .answers), l .leaves ∙ sym
 pub measures-determined : {b answer answer′ : List ℕ} → Measures b answer → Measures b answer′ → answer ≡ answer′
 measures-determined m m′ = m .answers ∙ sym (m′ .answers)
 
--- Where room suffices, a load answers what measure answers.
-pub load-as-measured : (lent : Tables) (b : List ℕ) (t : Tree) → read.load ours b ≡ ok t → room lent t ≡ ok t → load lent b ≡ read.load ours b
-unfolding load
-load-as-measured lent b t e r = then-ok _ _ e r ∙ sym e
+-- the code of an outcome is the first of its numbers
+pub code-first : (m : Outcome Tree) → code m ≡ first (numbers treeNumbers m)
+unfolding code numbers first
+code-first (ok t) = refl
+code-first (refused r) = refl
 
-pub refused-as-measured : (lent : Tables) (b : List ℕ) (r : Refusal) → read.load ours b ≡ refused r → load lent b ≡ read.load ours b
+-- 8, 9, 10
+abbrev RoomCode : ℕ → Type 0
+RoomCode n = (8 ≤ n) × (n ≤ 10)
+
+checked-or : (t : Bool) (r : Refusal) → RoomCode (first (refusalNumbers r)) → {A : Type 0} (f : Unit {0} → Outcome A) → (RoomCode (code (check t r >>= f)) → ⊥) → (check t r >>= f) ≡ f tt
+unfolding check _>>=_ code
+checked-or true r h f n = refl
+checked-or false r h f n = absurd (n h)
+
+-- a tree has room, or the answer is 8, 9 or 10
+pub room-or : (lent : Tables) (t : Tree) → ((8 ≤ code (room lent t)) × (code (room lent t) ≤ 10) → ⊥) → room lent t ≡ ok t
+unfolding room refusalNumbers first
+room-or lent t n =
+    let e₁ = checked-or _ _ (omega arith) _ n in
+    let n₂ = rw e₁ at n in
+    let e₂ = checked-or _ _ (omega arith) _ n₂ in
+    let n₃ = rw e₂ at n₂ in
+    e₁ ∙ e₂ ∙ checked-or _ _ (omega arith) _ n₃
+
+measured-by : (lent : Tables) (m : Outcome Tree) → ((8 ≤ first (numbers treeNumbers (m >>= λ t. room lent t))) × (first (numbers treeNumbers (m >>= λ t. room lent t)) ≤ 10) → ⊥)
+    → (m >>= λ t. room lent t) ≡ m
+unfolding _>>=_
+measured-by lent (ok t) n = room-or lent t (λ h. n (rw code-first at h))
+measured-by lent (refused r) n = refl
+
+-- Unless a load has no room, it answers what measure answers.
+pub load-measures : (lent : Tables) (b : List ℕ) → ((8 ≤ first (numbers treeNumbers (load lent b))) × (first (numbers treeNumbers (load lent b)) ≤ 10) → ⊥)
+    → numbers treeNumbers (load lent b) ≡ numbers treeNumbers (read.load ours b)
 unfolding load
-refused-as-measured lent b r e = then-refused _ _ e ∙ sym e
+load-measures lent b n = ap (numbers treeNumbers) (measured-by lent (read.load ours b) n)
 
 -- rows that fit a capacity fit the table
 pub capacity-fits : (width n : ℕ) (table : List ℕ) → n ≤ capacity width table → width * n ≤ length table

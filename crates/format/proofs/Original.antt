@@ -22,6 +22,7 @@ use Rattle.format.proofs.Answer.{ok-then}
 use Rattle.format.proofs.Bytes.{align-up}
 use Rattle.format.proofs.Read.{read-inside}
 use Rattle.format.proofs.Loops.{node-moves, properties-move}
+use Rattle.format.proofs.Load.{room-or}
 
 -- ---- an outcome that is not too deep
 
@@ -227,24 +228,9 @@ read-as-the-original b h =
 
 -- ---- into tables
 
--- a tree has room, or the answer is 8, 9 or 10
-checked-or : (t : Bool) (r : Refusal) → Limit (first (refusalNumbers r)) → {A : Type 0} (f : Unit {0} → Outcome A) → (Limit (code (check t r >>= f)) → ⊥) → (check t r >>= f) ≡ f tt
-unfolding check _>>=_ code
-checked-or true r h f n = refl
-checked-or false r h f n = absurd (n h)
-
-room-or : (lent : Tables) (t : Tree) → (Limit (code (room lent t)) → ⊥) → room lent t ≡ ok t
-unfolding room refusalNumbers first
-room-or lent t n =
-    let e₁ = checked-or _ _ (omega arith) _ n in
-    let n₂ = rw e₁ at n in
-    let e₂ = checked-or _ _ (omega arith) _ n₂ in
-    let n₃ = rw e₂ at n₂ in
-    e₁ ∙ e₂ ∙ checked-or _ _ (omega arith) _ n₃
-
 by-outcome : (lent : Tables) (m : Outcome Tree) → (Limit (code (m >>= λ t. room lent t)) → ⊥) → ((m >>= λ t. room lent t) ≡ m) × (code m ≢ 7)
 unfolding _>>=_ code
-by-outcome lent (ok t) n = (room-or lent t n, omega arith)
+by-outcome lent (ok t) n = (room-or lent t (λ h. n (omega (arith, h .0), h .1)), omega arith)
 by-outcome lent (refused r) n = (refl, λ e. n (omega arith, omega arith))
 
 -- An answer other than 7 to 10 is the Rust's.
