@@ -9,26 +9,39 @@ use Rattle.queries.proofs.fields.bytes.Tie as tie
 
 returns : tie.Need-returns
 unfolding Put
-returns c = bytes-empty (length (c .before .before .before .args .out .now)) (c .before .before .before .args .s .now) (omega arith)
+returns c =
+    let args = c .before .before .before .args in
+    bytes-empty (length (args .out .now)) (args .s .now) (omega arith)
 
 returns-2 : tie.Need-returns-2
 unfolding Put
-returns-2 c = (omega arith, bytes-none (length (c .before .before .before .before .before .before .args .out .now)) (c .before .before .before .before .before .before .args .s .now) (omega arith) (c .if3 .taken))
+returns-2 c =
+    let args = c .before .before .before .before .before .before .args in
+    (omega arith, bytes-none (length (args .out .now)) (args .s .now) (omega arith) (c .if3 .taken))
 
 returns-3 : tie.Need-returns-3
 unfolding Put
-returns-3 c = bytes-one (length (c .before .before .before .before .before .before .args .out .now)) (c .before .before .before .before .before .before .args .s .now) (omega arith) (c .if3 .left)
+returns-3 c =
+    let args = c .before .before .before .before .before .before .args in
+    bytes-one (length (args .out .now)) (args .s .now) (omega arith) (c .if3 .left)
 
 returns-4 : tie.Need-returns-4
 unfolding Put
-returns-4 c = bytes-odd (length (c .before .before .before .before .before .args .out .now)) (c .before .before .before .before .before .args .s .now) (λ e. omega arith) (omega arith)
+returns-4 c =
+    let args = c .before .before .before .before .before .args in
+    bytes-odd (length (args .out .now)) (args .s .now) (λ e. omega arith) (omega arith)
 
 returns-5 : tie.Need-returns-5
 unfolding Put
-returns-5 c = bytes-long (length (c .before .before .before .before .before .before .args .out .now)) (c .before .before .before .before .before .before .args .s .now) (omega arith) (λ e. omega arith) (omega arith)
+returns-5 c =
+    let args = c .before .before .before .before .before .before .args in
+    bytes-long (length (args .out .now)) (args .s .now) (omega arith) (λ e. omega arith) (omega arith)
 
 returns-6 : tie.Need-returns-6
-returns-6 c = rw (bytes-pairs (length (c .before .before .before .before .before .before .before .before .before .before .args .out .now)) (c .before .before .before .before .before .before .before .before .before .before .args .s .now) (omega arith) (λ e. omega arith) (omega arith)) (c .before .before .pairs .ensures)
+returns-6 c =
+    let args = c .before .before .before .before .before .before .before .before .before .before .args in
+    let pairs = c .before .before .pairs in
+    rw (bytes-pairs (length (args .out .now)) (args .s .now) (omega arith) (λ e. omega arith) (omega arith)) (pairs .ensures)
 
 pub bytes-spec : {M : Type 1} → statement M
 bytes-spec =

@@ -22,26 +22,32 @@ loop-holds : tie.Need-loop-holds Inv-loop μ-loop
 loop-holds c = (omega arith, refl, refl)
 
 loop-again : tie.Need-loop-again Inv-loop μ-loop
-loop-again c = (
-  omega arith,
-  first-grows _ _ (c .before .before .loop-test .taken) (c .if1 .left) (c .before .before .before .loop .inv .1),
-  c .before .before .before .loop .inv .2 ∙ rest-more _ _ (c .before .before .loop-test .taken) (c .if1 .left),
-)
+loop-again c =
+    let loop = c .before .before .before .loop in
+    let loop-test = c .before .before .loop-test in (
+      omega arith,
+      first-grows _ _ (loop-test .taken) (c .if1 .left) (loop .inv .1),
+      loop .inv .2 ∙ rest-more _ _ (loop-test .taken) (c .if1 .left),
+    )
 
 returns : tie.Need-returns Inv-loop μ-loop
 returns c =
+    let args = c .before .before .before .before .args in
+    let loop = c .before .before .before .loop in
+    let loop-test = c .before .before .loop-test in
     record {
       within = search needs;
-      first = first-ends (c .before .before .before .before .args .s .now) (c .before .before .before .loop .i) (c .before .before .before .loop .inv .1) (first-space (c .before .before .before .before .args .s .now) (c .before .before .before .loop .i) (c .before .before .loop-test .taken) (c .if1 .taken));
-      rest = c .before .before .before .loop .inv .2 ∙ rest-space _ _ (c .before .before .loop-test .taken) (c .if1 .taken);
+      first = first-ends (args .s .now) (loop .i) (loop .inv .1) (first-space (args .s .now) (loop .i) (loop-test .taken) (c .if1 .taken));
+      rest = loop .inv .2 ∙ rest-space _ _ (loop-test .taken) (c .if1 .taken);
     }
 
 returns-2 : tie.Need-returns-2 Inv-loop μ-loop
 returns-2 c =
+    let args = c .before .before .args in
     record {
       within = search needs;
-      first = first-ends (c .before .before .args .s .now) (c .before .loop .i) (c .before .loop .inv .1) (first-nil (c .before .before .args .s .now) (c .before .loop .i) (c .loop-test .left));
-      rest = c .before .loop .inv .2 ∙ rest-nil _ _ (c .loop-test .left) ∙ sym (drop-past (c .before .before .args .s .now) (c .before .loop .i) (c .loop-test .left));
+      first = first-ends (args .s .now) (c .before .loop .i) (c .before .loop .inv .1) (first-nil (args .s .now) (c .before .loop .i) (c .loop-test .left));
+      rest = c .before .loop .inv .2 ∙ rest-nil _ _ (c .loop-test .left) ∙ sym (drop-past (args .s .now) (c .before .loop .i) (c .loop-test .left));
     }
 
 pub end-spec : {M : Type 1} → statement M

@@ -22,26 +22,40 @@ loop-holds c = ((omega arith, omega arith), (refl, omega arith), before-nil _)
 
 returns : tie.Need-returns Inv-loop μ-loop
 unfolding Put
-returns c = put-none _ _ _ (c .before .before .before .before .before .before .loop .inv .2) (pairs-high (c .before .before .before .before .before .before .before .before .before .args .s .now) (c .before .before .before .before .before .before .loop .i) (omega arith) (c .before .before .before .digit .result) (c .before .digit2 .result) (cc) (cc) (omega arith))
+returns c =
+    let args = c .before .before .before .before .before .before .before .before .before .args in
+    let loop = c .before .before .before .before .before .before .loop in
+    let digit = c .before .before .before .digit in
+    put-none _ _ _ (loop .inv .2) (pairs-high (args .s .now) (loop .i) (omega arith) (digit .result) (c .before .digit2 .result) (cc) (cc) (omega arith))
 
 returns-2 : tie.Need-returns-2 Inv-loop μ-loop
 unfolding Put
-returns-2 c = put-none _ _ _ (c .before .before .before .before .before .before .before .loop .inv .2) (pairs-low (c .before .before .before .before .before .before .before .before .before .before .args .s .now) (c .before .before .before .before .before .before .before .loop .i) (omega arith) (c .before .before .before .before .digit .result) (c .before .before .digit2 .result) (cc) (cc) (omega arith) (omega arith))
+returns-2 c =
+    let args = c .before .before .before .before .before .before .before .before .before .before .args in
+    let loop = c .before .before .before .before .before .before .before .loop in
+    let digit = c .before .before .before .before .digit in
+    let digit2 = c .before .before .digit2 in
+    put-none _ _ _ (loop .inv .2) (pairs-low (args .s .now) (loop .i) (omega arith) (digit .result) (digit2 .result) (cc) (cc) (omega arith) (omega arith))
 
 loop-again : tie.Need-loop-again Inv-loop μ-loop
-loop-again c = (
-  (omega arith, omega arith),
-  (simp length-set (omega arith), simp length-set (omega arith)),
-  put-step _ (c .before .before .before .before .before .before .before .before .loop .out) (c .before .before .before .before .before .before .before .before .loop .i) (c .pair .result) _ _ (omega arith) (c .before .before .before .before .before .before .before .before .loop .inv .2)
-      (rw (c .pair .ensures) (pairs-step (c .before .before .before .before .before .before .before .before .before .before .before .args .s .now) (c .before .before .before .before .before .before .before .before .loop .i) (omega arith) (c .before .before .before .before .before .digit .result) (c .before .before .before .digit2 .result) (cc) (cc) (omega arith) (omega arith))),
-)
+loop-again c =
+    let args = c .before .before .before .before .before .before .before .before .before .before .before .args in
+    let loop = c .before .before .before .before .before .before .before .before .loop in
+    let digit = c .before .before .before .before .before .digit in
+    let digit2 = c .before .before .before .digit2 in (
+      (omega arith, omega arith),
+      (simp length-set (omega arith), simp length-set (omega arith)),
+      put-step _ (loop .out) (loop .i) (c .pair .result) _ _ (omega arith) (loop .inv .2)
+          (rw (c .pair .ensures) (pairs-step (args .s .now) (loop .i) (omega arith) (digit .result) (digit2 .result) (cc) (cc) (omega arith) (omega arith))),
+    )
 
 returns-3 : tie.Need-returns-3 Inv-loop μ-loop
 unfolding Put
-returns-3 c = (
-  omega arith,
-  put-all _ (c .before .before .before .before .args .s .now) (c .before .loop .out) (c .before .loop .i) (length (c .before .before .before .before .args .s .now) / 2) (c .before .loop .inv .2) (omega arith) (omega arith),
-)
+returns-3 c =
+    let args = c .before .before .before .before .args in (
+      omega arith,
+      put-all _ (args .s .now) (c .before .loop .out) (c .before .loop .i) (length (args .s .now) / 2) (c .before .loop .inv .2) (omega arith) (omega arith),
+    )
 
 pub pairs-spec : {M : Type 1} → statement M
 pairs-spec =

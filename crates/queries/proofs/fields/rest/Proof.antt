@@ -8,10 +8,16 @@ use Rattle.queries.proofs.fields.rest.Statement.{statement}
 use Rattle.queries.proofs.fields.rest.Tie as tie
 
 returns : tie.Need-returns
-returns c = tail-none (c .before .before .before .before .args .s .now) (c .before .before .end .result) (omega arith) ∙ sym (c .before .before .end .ensures .rest)
+returns c =
+    let args = c .before .before .before .before .args in
+    let end = c .before .before .end in
+    tail-none (args .s .now) (end .result) (omega arith) ∙ sym (end .ensures .rest)
 
 returns-2 : tie.Need-returns-2
-returns-2 c = tail-whole (c .before .before .before .before .args .s .now) (c .before .before .end .result + 1) ∙ sym (c .before .before .end .ensures .rest)
+returns-2 c =
+    let args = c .before .before .before .before .args in
+    let end = c .before .before .end in
+    tail-whole (args .s .now) (end .result + 1) ∙ sym (end .ensures .rest)
 
 pub rest-spec : {M : Type 1} → statement M
 rest-spec =

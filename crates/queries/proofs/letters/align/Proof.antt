@@ -8,14 +8,23 @@ use Rattle.queries.proofs.letters.align.Tie as tie
 
 returns : tie.Need-returns
 unfolding answerNumbers
-returns c = sym (first-bad rounded (c .before .before .before .before .before .args .s .now) (cc))
+returns c =
+    let args = c .before .before .before .before .before .args in
+    sym (first-bad rounded (args .s .now) (cc))
 
 returns-2 : tie.Need-returns-2
 unfolding answerNumbers
-returns-2 c = sym (second-bad rounded (c .before .before .before .before .before .before .before .before .before .before .args .s .now) (c .before .before .before .before .before .val .given .0 .0) (cc) (cc))
+returns-2 c =
+    let args = c .before .before .before .before .before .before .before .before .before .before .args in
+    let val = c .before .before .before .before .before .val in
+    sym (second-bad rounded (args .s .now) (val .given .0 .0) (cc) (cc))
 
 returns-3 : tie.Need-returns-3
-returns-3 c = c .of-place .ensures ∙ c .before .align .ensures ∙ sym (both rounded (c .before .before .before .before .before .before .before .before .before .before .before .before .before .args .s .now) (c .before .before .before .before .before .before .before .before .val .given .0 .0) (c .before .before .before .to .given .0 .0) (cc) (cc))
+returns-3 c =
+    let args = c .before .before .before .before .before .before .before .before .before .before .before .before .before .args in
+    let val = c .before .before .before .before .before .before .before .before .val in
+    let to = c .before .before .before .to in
+    c .of-place .ensures ∙ c .before .align .ensures ∙ sym (both rounded (args .s .now) (val .given .0 .0) (to .given .0 .0) (cc) (cc))
 
 pub align-spec : {M : Type 1} → statement M
 align-spec =

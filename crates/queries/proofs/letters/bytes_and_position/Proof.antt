@@ -10,15 +10,29 @@ use Rattle.queries.proofs.letters.bytes_and_position.Tie as tie
 
 returns : tie.Need-returns
 unfolding boundedReply
-returns c = λ f. sym (bytes-bad f (length (c .before .before .before .before .before .before .before .before .before .args .bytes .now)) (c .before .before .before .before .before .before .before .before .before .args .s .now) (cc (put-bad _ (bytesOf (length (c .before .before .before .before .before .before .before .before .before .args .bytes .now)) (c .before .before .before .before .before .before .first .result .now)) _ (c .enum-told .given .1) (c .before .before .before .before .bytes .ensures))))
+returns c =
+    let args = c .before .before .before .before .before .before .before .before .before .args in
+    let first = c .before .before .before .before .before .before .first in
+    let bytes = c .before .before .before .before .bytes in
+    λ f. sym (bytes-bad f (length (args .bytes .now)) (args .s .now) (cc (put-bad _ (bytesOf (length (args .bytes .now)) (first .result .now)) _ (c .enum-told .given .1) (bytes .ensures))))
 
 returns-2 : tie.Need-returns-2
 unfolding boundedReply
-returns-2 c = λ f. sym (position-bad f (length (c .before .before .before .before .before .before .before .before .before .before .before .before .before .before .args .bytes .now)) (c .before .before .before .before .before .before .before .before .before .before .before .before .before .before .args .s .now) (take (c .before .before .before .before .before .len .given .0 .0) (c .before .before .before .before .before .before .before .before .before .bytes .last .1 .0)) (cc (put-is _ (bytesOf (length (c .before .before .before .before .before .before .before .before .before .before .before .before .before .before .args .bytes .now)) (c .before .before .before .before .before .before .before .before .before .before .before .first .result .now)) (c .before .before .before .before .before .before .before .before .before .bytes .last .1 .0) (c .before .before .before .before .before .len .given .0 .0) (c .before .before .before .before .before .len .given .1) (c .before .before .before .before .before .before .before .before .before .bytes .ensures))) (cc))
+returns-2 c =
+    let args = c .before .before .before .before .before .before .before .before .before .before .before .before .before .before .args in
+    let first = c .before .before .before .before .before .before .before .before .before .before .before .first in
+    let bytes = c .before .before .before .before .before .before .before .before .before .bytes in
+    let len = c .before .before .before .before .before .len in
+    λ f. sym (position-bad f (length (args .bytes .now)) (args .s .now) (take (len .given .0 .0) (bytes .last .1 .0)) (cc (put-is _ (bytesOf (length (args .bytes .now)) (first .result .now)) (bytes .last .1 .0) (len .given .0 .0) (len .given .1) (bytes .ensures))) (cc))
 
 returns-3 : tie.Need-returns-3
 unfolding boundedReply
-returns-3 c = λ f. sym (position f (length (c .before .before .before .before .before .before .before .before .before .before .before .before .before .before .before .args .bytes .now)) (c .before .before .before .before .before .before .before .before .before .before .before .before .before .before .before .args .s .now) (take (c .before .before .before .before .before .before .len .given .0 .0) (c .before .before .before .before .before .before .before .before .before .before .bytes .last .1 .0)) _ (cc (put-is _ (bytesOf (length (c .before .before .before .before .before .before .before .before .before .before .before .before .before .before .before .args .bytes .now)) (c .before .before .before .before .before .before .before .before .before .before .before .before .first .result .now)) (c .before .before .before .before .before .before .before .before .before .before .bytes .last .1 .0) (c .before .before .before .before .before .before .len .given .0 .0) (c .before .before .before .before .before .before .len .given .1) (c .before .before .before .before .before .before .before .before .before .before .bytes .ensures))) (cc))
+returns-3 c =
+    let args = c .before .before .before .before .before .before .before .before .before .before .before .before .before .before .before .args in
+    let first = c .before .before .before .before .before .before .before .before .before .before .before .before .first in
+    let bytes = c .before .before .before .before .before .before .before .before .before .before .bytes in
+    let len = c .before .before .before .before .before .before .len in
+    λ f. sym (position f (length (args .bytes .now)) (args .s .now) (take (len .given .0 .0) (bytes .last .1 .0)) _ (cc (put-is _ (bytesOf (length (args .bytes .now)) (first .result .now)) (bytes .last .1 .0) (len .given .0 .0) (len .given .1) (bytes .ensures))) (cc))
 
 pub bytes-and-position-spec : {M : Type 1} → statement M
 bytes-and-position-spec =

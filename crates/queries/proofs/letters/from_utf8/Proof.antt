@@ -10,10 +10,18 @@ use Rattle.queries.proofs.letters.from_utf8.Tie as tie
 
 returns : tie.Need-returns
 unfolding answerNumbers
-returns c = sym (utf8-bad (length (c .before .before .before .before .before .before .before .before .args .bytes .now)) (c .before .before .before .before .before .before .before .before .args .s .now) (put-bad _ (bytesOf (length (c .before .before .before .before .before .before .before .before .args .bytes .now)) (c .before .before .before .before .before .before .before .before .args .s .now)) (c .before .before .before .before .bytes .last .1 .0) (c .enum-told .given .1) (c .before .before .before .before .bytes .ensures)))
+returns c =
+    let args = c .before .before .before .before .before .before .before .before .args in
+    let bytes = c .before .before .before .before .bytes in
+    sym (utf8-bad (length (args .bytes .now)) (args .s .now) (put-bad _ (bytesOf (length (args .bytes .now)) (args .s .now)) (bytes .last .1 .0) (c .enum-told .given .1) (bytes .ensures)))
 
 returns-2 : tie.Need-returns-2
-returns-2 c = c .of-checked .ensures ∙ c .before .from-utf8 .ensures ∙ utf8-is (length (c .before .before .before .before .before .before .before .before .before .before .before .before .before .args .bytes .now)) (c .before .before .before .before .before .before .before .before .before .before .before .before .before .args .s .now) (take (c .before .before .before .before .before .len .given .0 .0) (c .before .before .before .before .before .before .before .before .before .bytes .last .1 .0)) _ (put-is _ (bytesOf (length (c .before .before .before .before .before .before .before .before .before .before .before .before .before .args .bytes .now)) (c .before .before .before .before .before .before .before .before .before .before .before .before .before .args .s .now)) (c .before .before .before .before .before .before .before .before .before .bytes .last .1 .0) (c .before .before .before .before .before .len .given .0 .0) (c .before .before .before .before .before .len .given .1) (c .before .before .before .before .before .before .before .before .before .bytes .ensures)) (c .before .before .upto .ensures)
+returns-2 c =
+    let args = c .before .before .before .before .before .before .before .before .before .before .before .before .before .args in
+    let bytes = c .before .before .before .before .before .before .before .before .before .bytes in
+    let len = c .before .before .before .before .before .len in
+    let upto = c .before .before .upto in
+    c .of-checked .ensures ∙ c .before .from-utf8 .ensures ∙ utf8-is (length (args .bytes .now)) (args .s .now) (take (len .given .0 .0) (bytes .last .1 .0)) _ (put-is _ (bytesOf (length (args .bytes .now)) (args .s .now)) (bytes .last .1 .0) (len .given .0 .0) (len .given .1) (bytes .ensures)) (upto .ensures)
 
 pub from-utf8-spec : {M : Type 1} → statement M
 from-utf8-spec =

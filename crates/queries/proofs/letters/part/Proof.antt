@@ -8,14 +8,23 @@ use Rattle.queries.proofs.letters.part.Tie as tie
 
 returns : tie.Need-returns
 unfolding answerNumbers
-returns c = sym (first-bad (part (c .before .before .before .before .before .before .args .bytes .now)) (c .before .before .before .before .before .before .args .s .now) (cc))
+returns c =
+    let args = c .before .before .before .before .before .before .args in
+    sym (first-bad (part (args .bytes .now)) (args .s .now) (cc))
 
 returns-2 : tie.Need-returns-2
 unfolding answerNumbers
-returns-2 c = sym (second-bad (part (c .before .before .before .before .before .before .before .before .before .before .before .args .bytes .now)) (c .before .before .before .before .before .before .before .before .before .before .before .args .s .now) (c .before .before .before .before .before .start .given .0 .0) (cc) (cc))
+returns-2 c =
+    let args = c .before .before .before .before .before .before .before .before .before .before .before .args in
+    let start = c .before .before .before .before .before .start in
+    sym (second-bad (part (args .bytes .now)) (args .s .now) (start .given .0 .0) (cc) (cc))
 
 returns-3 : tie.Need-returns-3
-returns-3 c = c .of-span .ensures ∙ c .before .subslice .ensures ∙ sym (both (part (c .before .before .before .before .before .before .before .before .before .before .before .before .before .before .args .bytes .now)) (c .before .before .before .before .before .before .before .before .before .before .before .before .before .before .args .s .now) (c .before .before .before .before .before .before .before .before .start .given .0 .0) (c .before .before .before .end .given .0 .0) (cc) (cc))
+returns-3 c =
+    let args = c .before .before .before .before .before .before .before .before .before .before .before .before .before .before .args in
+    let start = c .before .before .before .before .before .before .before .before .start in
+    let end = c .before .before .before .end in
+    c .of-span .ensures ∙ c .before .subslice .ensures ∙ sym (both (part (args .bytes .now)) (args .s .now) (start .given .0 .0) (end .given .0 .0) (cc) (cc))
 
 pub part-spec : {M : Type 1} → statement M
 part-spec =

@@ -10,10 +10,16 @@ use Rattle.queries.proofs.letters.read_bstring0.Tie as tie
 
 returns : tie.Need-returns
 unfolding answerNumbers
-returns c = sym (bounded-bad string (c .before .before .before .before .bytes-and-position .result) (c .before .before .before .before .bytes-and-position .last .1 .0) (c .enum-told .given .1)) ∙ c .before .before .before .before .bytes-and-position .ensures string
+returns c =
+    let bytes-and-position = c .before .before .before .before .bytes-and-position in
+    sym (bounded-bad string (bytes-and-position .result) (bytes-and-position .last .1 .0) (c .enum-told .given .1)) ∙ bytes-and-position .ensures string
 
 returns-2 : tie.Need-returns-2
-returns-2 c = c .of-span .ensures ∙ c .before .read-bstring0 .ensures ∙ ap (λ (l : List ℕ). string l (c .before .before .before .before .before .len .given .0 .1 .0)) (c .before .before .upto .ensures) ∙ sym (bounded-at string (c .before .before .before .before .before .before .before .before .before .bytes-and-position .result) (c .before .before .before .before .before .before .before .before .before .bytes-and-position .last .1 .0) (c .before .before .before .before .before .len .given .0 .0) (c .before .before .before .before .before .len .given .0 .1 .0) (c .before .before .before .before .before .len .given .1)) ∙ c .before .before .before .before .before .before .before .before .before .bytes-and-position .ensures string
+returns-2 c =
+    let bytes-and-position = c .before .before .before .before .before .before .before .before .before .bytes-and-position in
+    let len = c .before .before .before .before .before .len in
+    let upto = c .before .before .upto in
+    c .of-span .ensures ∙ c .before .read-bstring0 .ensures ∙ ap (λ (l : List ℕ). string l (len .given .0 .1 .0)) (upto .ensures) ∙ sym (bounded-at string (bytes-and-position .result) (bytes-and-position .last .1 .0) (len .given .0 .0) (len .given .0 .1 .0) (len .given .1)) ∙ bytes-and-position .ensures string
 
 pub read-bstring0-spec : {M : Type 1} → statement M
 read-bstring0-spec =

@@ -10,39 +10,62 @@ use Rattle.queries.proofs.letters.reply.Tie as tie
 
 returns : tie.Need-returns
 unfolding answerNumbers
-returns c = sym (too-short (length (c .before .before .before .args .bytes .now)) (c .before .before .before .args .line .now) (omega arith))
+returns c =
+    let args = c .before .before .before .args in
+    sym (too-short (length (args .bytes .now)) (args .line .now) (omega arith))
 
 returns-2 : tie.Need-returns-2
 unfolding answerNumbers
-returns-2 c = sym (no-space (length (c .before .before .before .before .before .args .bytes .now)) (c .before .before .before .before .before .args .line .now) (omega arith) (λ e. omega arith))
+returns-2 c =
+    let args = c .before .before .before .before .before .args in
+    sym (no-space (length (args .bytes .now)) (args .line .now) (omega arith) (λ e. omega arith))
 
 returns-3 : tie.Need-returns-3
 unfolding letterReply
-returns-3 c = c .align .ensures ∙ sym (by-letter (length (c .before .before .before .before .before .before .before .before .before .args .bytes .now)) (c .before .before .before .before .before .before .before .before .before .args .line .now) 65 (omega arith) (omega arith) (omega arith))
+returns-3 c =
+    let args = c .before .before .before .before .before .before .before .before .before .args in
+    c .align .ensures ∙ sym (by-letter (length (args .bytes .now)) (args .line .now) 65 (omega arith) (omega arith) (omega arith))
 
 returns-4 : tie.Need-returns-4
 unfolding letterReply
-returns-4 c = c .before .before .read-be-u32 .ensures ∙ sym (by-letter (length (c .before .before .before .before .before .before .before .before .before .before .before .before .args .bytes .now)) (c .before .before .before .before .before .before .before .before .before .before .before .before .args .line .now) 87 (omega arith) (omega arith) (omega arith))
+returns-4 c =
+    let args = c .before .before .before .before .before .before .before .before .before .before .before .before .args in
+    let read-be-u32 = c .before .before .read-be-u32 in
+    read-be-u32 .ensures ∙ sym (by-letter (length (args .bytes .now)) (args .line .now) 87 (omega arith) (omega arith) (omega arith))
 
 returns-5 : tie.Need-returns-5
 unfolding letterReply
-returns-5 c = c .before .before .read-be-u64 .ensures ∙ sym (by-letter (length (c .before .before .before .before .before .before .before .before .before .before .before .before .args .bytes .now)) (c .before .before .before .before .before .before .before .before .before .before .before .before .args .line .now) 76 (omega arith) (omega arith) (omega arith))
+returns-5 c =
+    let args = c .before .before .before .before .before .before .before .before .before .before .before .before .args in
+    let read-be-u64 = c .before .before .read-be-u64 in
+    read-be-u64 .ensures ∙ sym (by-letter (length (args .bytes .now)) (args .line .now) 76 (omega arith) (omega arith) (omega arith))
 
 returns-6 : tie.Need-returns-6
 unfolding letterReply
-returns-6 c = c .before .before .read-bstring0 .ensures ∙ sym (by-letter (length (c .before .before .before .before .before .before .before .before .before .before .before .before .args .bytes .now)) (c .before .before .before .before .before .before .before .before .before .before .before .before .args .line .now) 90 (omega arith) (omega arith) (omega arith))
+returns-6 c =
+    let args = c .before .before .before .before .before .before .before .before .before .before .before .before .args in
+    let read-bstring0 = c .before .before .read-bstring0 in
+    read-bstring0 .ensures ∙ sym (by-letter (length (args .bytes .now)) (args .line .now) 90 (omega arith) (omega arith) (omega arith))
 
 returns-7 : tie.Need-returns-7
 unfolding letterReply
-returns-7 c = c .before .before .subslice .ensures ∙ sym (by-letter (length (c .before .before .before .before .before .before .before .before .before .before .before .before .args .bytes .now)) (c .before .before .before .before .before .before .before .before .before .before .before .before .args .line .now) 83 (omega arith) (omega arith) (omega arith))
+returns-7 c =
+    let args = c .before .before .before .before .before .before .before .before .before .before .before .before .args in
+    let subslice = c .before .before .subslice in
+    subslice .ensures ∙ sym (by-letter (length (args .bytes .now)) (args .line .now) 83 (omega arith) (omega arith) (omega arith))
 
 returns-8 : tie.Need-returns-8
 unfolding letterReply
-returns-8 c = c .before .before .from-utf8 .ensures ∙ sym (by-letter (length (c .before .before .before .before .before .before .before .before .before .before .before .before .args .bytes .now)) (c .before .before .before .before .before .before .before .before .before .before .before .before .args .line .now) 85 (omega arith) (omega arith) (omega arith))
+returns-8 c =
+    let args = c .before .before .before .before .before .before .before .before .before .before .before .before .args in
+    let from-utf8 = c .before .before .from-utf8 in
+    from-utf8 .ensures ∙ sym (by-letter (length (args .bytes .now)) (args .line .now) 85 (omega arith) (omega arith) (omega arith))
 
 returns-9 : tie.Need-returns-9
 unfolding answerNumbers
-returns-9 c = sym (by-letter (length (c .before .before .before .before .before .before .before .before .args .bytes .now)) (c .before .before .before .before .before .before .before .before .args .line .now) _ (omega arith) (omega arith) refl ∙ other-letter _ _ _ (λ e. omega arith) (λ e. omega arith) (λ e. omega arith) (λ e. omega arith) (λ e. omega arith) (λ e. omega arith))
+returns-9 c =
+    let args = c .before .before .before .before .before .before .before .before .args in
+    sym (by-letter (length (args .bytes .now)) (args .line .now) _ (omega arith) (omega arith) refl ∙ other-letter _ _ _ (λ e. omega arith) (λ e. omega arith) (λ e. omega arith) (λ e. omega arith) (λ e. omega arith) (λ e. omega arith))
 
 pub reply-spec : {M : Type 1} → statement M
 reply-spec =

@@ -10,10 +10,20 @@ use Rattle.queries.proofs.letters.subslice.Tie as tie
 
 returns : tie.Need-returns
 unfolding answerNumbers
-returns c = sym (subslice-bad (length (c .before .before .before .before .before .before .before .before .before .args .bytes .now)) (c .before .before .before .before .before .before .before .before .before .args .s .now) (cc (put-bad _ (bytesOf (length (c .before .before .before .before .before .before .before .before .before .args .bytes .now)) (c .before .before .before .before .before .before .first .result .now)) (c .before .before .before .before .bytes .last .1 .0) (c .enum-told .given .1) (c .before .before .before .before .bytes .ensures))))
+returns c =
+    let args = c .before .before .before .before .before .before .before .before .before .args in
+    let first = c .before .before .before .before .before .before .first in
+    let bytes = c .before .before .before .before .bytes in
+    sym (subslice-bad (length (args .bytes .now)) (args .s .now) (cc (put-bad _ (bytesOf (length (args .bytes .now)) (first .result .now)) (bytes .last .1 .0) (c .enum-told .given .1) (bytes .ensures))))
 
 returns-2 : tie.Need-returns-2
-returns-2 c = c .part .ensures ∙ subslice-is (length (c .before .before .before .before .before .before .before .before .before .before .before .before .before .before .args .bytes .now)) (c .before .before .before .before .before .before .before .before .before .before .before .before .before .before .args .s .now) (take (c .before .before .before .before .before .len .given .0 .0) (c .before .before .before .before .before .before .before .before .before .bytes .last .1 .0)) _ _ (cc (put-is _ (bytesOf (length (c .before .before .before .before .before .before .before .before .before .before .before .before .before .before .args .bytes .now)) (c .before .before .before .before .before .before .before .before .before .before .before .first .result .now)) (c .before .before .before .before .before .before .before .before .before .bytes .last .1 .0) (c .before .before .before .before .before .len .given .0 .0) (c .before .before .before .before .before .len .given .1) (c .before .before .before .before .before .before .before .before .before .bytes .ensures))) (c .before .upto .ensures) (c .before .before .before .rest .ensures)
+returns-2 c =
+    let args = c .before .before .before .before .before .before .before .before .before .before .before .before .before .before .args in
+    let first = c .before .before .before .before .before .before .before .before .before .before .before .first in
+    let bytes = c .before .before .before .before .before .before .before .before .before .bytes in
+    let len = c .before .before .before .before .before .len in
+    let rest = c .before .before .before .rest in
+    c .part .ensures ∙ subslice-is (length (args .bytes .now)) (args .s .now) (take (len .given .0 .0) (bytes .last .1 .0)) _ _ (cc (put-is _ (bytesOf (length (args .bytes .now)) (first .result .now)) (bytes .last .1 .0) (len .given .0 .0) (len .given .1) (bytes .ensures))) (c .before .upto .ensures) (rest .ensures)
 
 pub subslice-spec : {M : Type 1} → statement M
 subslice-spec =
