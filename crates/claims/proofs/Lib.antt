@@ -1,0 +1,6 @@
+-- One file a demand, and what belongs to all of them.
+pub mod Demand1
+pub mod Demand2
+pub mod Demand3
+pub mod Determined
+pub mod Starred

@@ -1,0 +1,1 @@
+// The user's demands as theorems, over the relations that the contracts cite. No code.

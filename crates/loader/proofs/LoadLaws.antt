@@ -1,0 +1,280 @@
+-- What the survey finds, in crate format's words: a load of the blob answers the same, and where it found a tree that tree stands there,
+-- so that the stores may begin; and what the stores leave is what a load is to leave. Assumes, where it is named, that the blob's
+-- elements are bytes.
+use mathlib.Core.Path.{_≡_, refl, sym, ap, ap₂, _∙_, subst}
+use Prim.Native.Nat.{ℕ, _+_, _-_, _*_, _/_, _≤_, _<_, _^_}
+use native.Mathlib.Omega.{arith}
+use native.Mathlib.Nat.{zero-add}
+use mathlib.Core.List.{List, [], _∷_}
+use lib.ListN.{length}
+use lib.Seq.{sets}
+use lib.Dec.{leb}
+use borrow.Author.Tests.{le-leb, lt-leb}
+use Rattle.format.specs.Answer.{Refusal, refusalNumbers, Outcome, ok, refused, _>>=_, numbers, reservationRoom, nodeRoom, propertyRoom}
+use Rattle.format.specs.Bytes.{AreBytes, wordAt}
+use Rattle.format.specs.Format as format
+use Rattle.format.specs.Format.{version, reservationWidth, nodeWidth, propertyWidth, structureAt, stringsAt}
+use Rattle.format.specs.Tree.{Node, Reservation, Tree, depth, nodeCount, propertyCount}
+use Rattle.format.specs.Rules.{ours}
+use Rattle.format.specs.Encodes.{NodeAt}
+use Rattle.format.specs.Encodes as encodes
+use Rattle.format.specs.Rows.{reservationNumbers, nodeNumbers, propertyNumbers, nodeRows, nodeProperties, rows}
+use Rattle.format.specs.Read as read
+use Rattle.format.specs.Load.{Tables, treeNumbers, capacity, room, tablesAfter, Loads, Measures, Accepted}
+use Rattle.format.specs.Load as load
+use Rattle.format.proofs.Answer.{ok-same, refused-same, ok-then, step, then-ok, then-refused, then-then, never, check-ok, check-no}
+use Rattle.format.proofs.Read.{read-there, read-inside}
+use Rattle.format.proofs.Load.{capacity-fits, accepted}
+use Rattle.format.proofs.Sizes.{counts-fit, length-small, structure-is, strings-is}
+use Rattle.format.proofs.Sound.{sound}
+use Rattle.format.proofs.Complete.{only-tree}
+use Rattle.loader.specs.Check.{block, whyOf, count}
+use Rattle.loader.specs.Reserve.{listed, scanFrom, StoreReady}
+use Rattle.loader.specs.Pass.{NodeHere, NodeReady, State, nodeAfter}
+use Rattle.loader.specs.Survey.{headerOf, namesOf, surveyOf, loadedNumbers, lent}
+use Rattle.loader.specs.declared.Block.{Block}
+use Rattle.loader.specs.declared.DeviceTree.{DeviceTree}
+use Rattle.loader.specs.declared.Loaded.the-variants.{Tree as LoadedTree, Refused as LoadedRefused}
+use Rattle.loader.specs.declared.DeviceTreeError.{DeviceTreeError}
+use Rattle.loader.specs.declared.DeviceTreeError.the-variants.{ReservationRoom, NodeRoom, PropertyRoom}
+use Rattle.loader.specs.declared.loading.Header.{Header}
+use Rattle.loader.specs.declared.loading.Found.{Found}
+
+-- ---- the survey and the load read the same
+
+record Full : Type 0 where
+  header : read.Header
+  reserved : List Reservation
+  root : read.Read Node
+
+-- the header as the code has it
+own : read.Header → Header
+own h = record { structure = h .structure; strings = h .strings; reservations = h .reservations; boot = h .boot }
+
+full : List ℕ → Outcome Full
+full b =
+    read.header b >>= λ h.
+    listed b (h .reservations) >>= λ rs.
+    read.nodeLoad b (record { start = h .strings; end = ours .stringsEnd b }) (ours .depthLimit b) (h .structure) >>= λ root.
+    ok (record { header = h; reserved = rs; root = root })
+
+treeOf : Full → Tree
+treeOf f = record { boot = f .header .boot; reserved = f .reserved; root = f .root .value }
+
+foundOf : List ℕ → Full → Found
+foundOf b f = record {
+  structure = f .header .structure;
+  strings = namesOf b (own (f .header));
+  reservations = f .header .reservations;
+  tree = record {
+    version = version;
+    «boot_cpuid_phys» = f .header .boot;
+    reserved = (f .header .reservations + 16 * length (f .reserved) - f .header .reservations) / 16;
+    nodes = nodeCount (f .root .value);
+    props = propertyCount (f .root .value);
+  };
+}
+
+load-full : (b : List ℕ) → read.load ours b ≡ (full b >>= λ f. ok (treeOf f))
+unfolding read.load read.loadWithin read.body full treeOf listed
+load-full b = simp (then-then, ok-then)
+
+survey-full : (b : List ℕ) → surveyOf b ≡ (full b >>= λ f. ok (foundOf b f))
+unfolding surveyOf headerOf scanFrom count full foundOf own block namesOf
+survey-full b = simp (then-then, ok-then)
+
+mapped-refused : {A B : Type 0} (m : Outcome A) (f : A → B) {r : Refusal} → (m >>= λ a. ok (f a)) ≡ refused r → m ≡ refused r
+unfolding _>>=_
+mapped-refused (ok a) f e = absurd (never (sym e))
+mapped-refused (refused s) f {r} e = ap refused (refused-same e)
+
+pub survey-refused : (b : List ℕ) (r : Refusal) → surveyOf b ≡ refused r → read.load ours b ≡ refused r
+survey-refused b r e = load-full b ∙ then-refused _ _ (mapped-refused (full b) (foundOf b) (sym (survey-full b) ∙ e))
+
+-- ---- what was found
+
+-- the tree that was found, and how the survey tells it
+pub record Finds (b : List ℕ) (v : Found) : Type 0 where
+  pub tree : Tree
+  pub loads : read.load ours b ≡ ok tree
+  pub says : loadedNumbers (LoadedTree (v .tree)) ≡ 0 ∷ treeNumbers tree
+  pub listed-at : listed b (v .reservations) ≡ ok (tree .reserved)
+  pub structure : v .structure ≡ wordAt b structureAt
+  pub start : v .strings .start ≡ wordAt b stringsAt
+  pub end : v .strings .end ≡ ours .stringsEnd b
+  pub reserved : v .tree .reserved ≡ length (tree .reserved)
+  pub nodes : v .tree .nodes ≡ nodeCount (tree .root)
+  pub props : v .tree .props ≡ propertyCount (tree .root)
+
+word-of : (b : List ℕ) (p : ℕ) {n : ℕ} → read.read-be-u32 b p ≡ ok n → n ≡ wordAt b p
+word-of b p e = ok-same (sym e ∙ read-there b 4 p (read-inside b 4 p e))
+
+record Offsets (b : List ℕ) (h : read.Header) : Type 0 where
+  structure : h .structure ≡ wordAt b structureAt
+  strings : h .strings ≡ wordAt b stringsAt
+
+offsets : (b : List ℕ) (h : read.Header) → read.header b ≡ ok h → Offsets b h
+unfolding read.header
+offsets b h e =
+    step _ _ e λ _ _ e.
+    step _ _ e λ _ _ e.
+    step _ _ e λ _ _ e.
+    step _ _ e λ _ _ e.
+    step _ _ e λ _ _ e.
+    step _ _ e λ _ _ e.
+    step _ _ e λ structure isStructure e.
+    step _ _ e λ strings isStrings e.
+    step _ _ e λ _ _ e.
+    step _ _ e λ _ _ e.
+    subst (Offsets b) (ok-same e) (record { structure = word-of b structureAt isStructure; strings = word-of b stringsAt isStrings })
+
+full-finds : (b : List ℕ) (f : Full) → full b ≡ ok f → Finds b (foundOf b f)
+unfolding full foundOf treeOf own namesOf loadedNumbers treeNumbers
+full-finds b f e =
+    step _ _ e λ h isHeader e₁.
+    step _ _ e₁ λ rs isListed e₂.
+    step _ _ e₂ λ root isRoot e₃.
+    let same : record { header = h; reserved = rs; root = root } ≡ f = ok-same e₃ in
+    let at = offsets b (f .header) (isHeader ∙ ap ok (ap (λ (g : Full). g .header) same)) in
+    let counted : (f .header .reservations + 16 * length (f .reserved) - f .header .reservations) / 16 ≡ length (f .reserved) = omega arith in
+    record {
+      tree = treeOf f;
+      loads = load-full b ∙ then-ok _ _ e refl;
+      says = rw counted;
+      listed-at = subst (λ (g : Full). listed b (g .header .reservations) ≡ ok (g .reserved)) same isListed;
+      structure = at .structure;
+      start = at .strings;
+      end = refl;
+      reserved = counted;
+      nodes = refl;
+      props = refl;
+    }
+
+pub survey-finds : (b : List ℕ) (v : Found) → surveyOf b ≡ ok v → Finds b v
+survey-finds b v e = step _ _ (sym (survey-full b) ∙ e) λ f h e. subst (Finds b) (ok-same e) (full-finds b f h)
+
+-- ---- measure
+
+pub measured : (b : List ℕ) (v : Found) → surveyOf b ≡ ok v → Measures b (loadedNumbers (LoadedTree (v .tree)))
+unfolding numbers
+measured b v e = let f = survey-finds b v e in record { answers = f .says ∙ sym (ap (numbers treeNumbers) (f .loads)) }
+
+pub not-measured : (b : List ℕ) (why : DeviceTreeError) → surveyOf b ≡ refused (whyOf why) → Measures b (loadedNumbers (LoadedRefused why))
+unfolding numbers loadedNumbers
+not-measured b why e = record { answers = sym (ap (numbers treeNumbers) (survey-refused b (whyOf why) e)) }
+
+-- ---- a node that stands stands where its block and its position are said otherwise
+
+block-is : (k : Block) {a e : ℕ} → k .start ≡ a → k .end ≡ e → block k ≡ record { start = a; end = e }
+unfolding block
+block-is k p q = ap₂ (λ a e. record { start = a; end = e }) p q
+
+stands-at : (b : List ℕ) (n : Node) {s s′ : encodes.Block} {p p′ : ℕ} → s ≡ s′ → p ≡ p′ → NodeAt b s′ p′ n → NodeAt b s p n
+stands-at b n {s} {s′} {p} {p′} e₁ e₂ h = subst (λ k. NodeAt b k p n) (sym e₁) (subst (λ q. NodeAt b s′ q n) (sym e₂) h)
+
+-- ---- load: refusals leave the tables
+
+refusal : (t : Tables) (b : List ℕ) (why : DeviceTreeError) → load.load t b ≡ refused (whyOf why) → Loads t b (loadedNumbers (LoadedRefused why)) t
+unfolding numbers loadedNumbers tablesAfter
+refusal t b why e = record { answers = sym (ap (numbers treeNumbers) e); leaves = sym (ap (tablesAfter t b) e) }
+
+pub survey-refuses : (t : Tables) (b : List ℕ) (why : DeviceTreeError) → surveyOf b ≡ refused (whyOf why) → Loads t b (loadedNumbers (LoadedRefused why)) t
+unfolding load.load
+survey-refuses t b why e = refusal t b why (then-refused _ _ (survey-refused b (whyOf why) e))
+
+module _ (t : Tables) (b : List ℕ) (v : Found) (e : surveyOf b ≡ ok v) where
+  found : Finds b v
+  found = survey-finds b v e
+
+  -- the tree that was found
+  pub tree : Tree
+  tree = found .tree
+
+  roomed : {m : Outcome Tree} → room t tree ≡ m → load.load t b ≡ m
+  unfolding load.load tree
+  roomed h = then-ok _ _ (found .loads) h
+
+  pub no-reservation-room : capacity reservationWidth (t .reservations) < v .tree .reserved → Loads t b (loadedNumbers (LoadedRefused (ReservationRoom (v .tree .reserved)))) t
+  unfolding room whyOf tree
+  no-reservation-room h =
+      refusal t b _ (roomed (then-refused _ _ (check-no _ (lt-leb _ _ (rw (found .reserved) at h)))) ∙ ap (λ n. refused (reservationRoom n)) (sym (found .reserved)))
+
+  module _ (r : v .tree .reserved ≤ capacity reservationWidth (t .reservations)) where
+    pub no-node-room : capacity nodeWidth (t .nodes) < v .tree .nodes → Loads t b (loadedNumbers (LoadedRefused (NodeRoom (v .tree .nodes)))) t
+    unfolding room whyOf tree
+    no-node-room h =
+        refusal t b _
+        (roomed (then-ok _ _ (check-ok _ (le-leb _ _ (rw (found .reserved) at r))) (then-refused _ _ (check-no _ (lt-leb _ _ (rw (found .nodes) at h)))))
+        ∙ ap (λ n. refused (nodeRoom n)) (sym (found .nodes)))
+
+    module _ (n : v .tree .nodes ≤ capacity nodeWidth (t .nodes)) where
+      pub no-property-room : capacity propertyWidth (t .properties) < v .tree .props → Loads t b (loadedNumbers (LoadedRefused (PropertyRoom (v .tree .props)))) t
+      unfolding room whyOf tree
+      no-property-room h =
+          refusal t b _
+          (roomed (then-ok _ _ (check-ok _ (le-leb _ _ (rw (found .reserved) at r))) (then-ok _ _ (check-ok _ (le-leb _ _ (rw (found .nodes) at n))) (then-refused _ _ (check-no _ (lt-leb _ _ (rw (found .props) at h))))))
+          ∙ ap (λ n. refused (propertyRoom n)) (sym (found .props)))
+
+      -- ---- load: what is found is stored
+      module _ (p : v .tree .props ≤ capacity propertyWidth (t .properties)) (all : AreBytes b) where
+        accepts : load.load t b ≡ ok tree
+        unfolding room tree
+        accepts =
+            roomed (then-ok _ _ (check-ok _ (le-leb _ _ (rw (found .reserved) at r)))
+            (then-ok _ _ (check-ok _ (le-leb _ _ (rw (found .nodes) at n))) (then-ok _ _ (check-ok _ (le-leb _ _ (rw (found .props) at p))) refl)))
+
+        fine : Accepted t b tree
+        fine = accepted t b all tree .0 accepts
+
+        small : length b < 2 ^ 32
+        small = length-small b all (fine .encodes .layout .lengthIs)
+
+        pub stores-ready : StoreReady b (v .reservations) (t .reservations)
+        unfolding tree
+        stores-ready = record {
+          rs = found .tree .reserved;
+          here = found .listed-at;
+          room = capacity-fits reservationWidth _ (t .reservations) (fine .reservationsFit);
+          small = small;
+        }
+
+        root-here : NodeHere b (block (v .strings)) (v .structure) (tree .root)
+        root-here =
+            let at = fine .encodes in
+            record {
+              good = at .good .names;
+              at = stands-at b (tree .root) (block-is (v .strings) (found .start ∙ strings-is ours b tree at) (found .end)) (found .structure ∙ structure-is ours b tree at) (at .layout .root);
+            }
+
+        pub writes-ready : NodeReady b (block (v .strings)) (ours .depthLimit b) (v .structure) 0 0 (t .nodes) (t .properties)
+        unfolding block ours format.NONE
+        writes-ready =
+            let few = counts-fit ours b tree all (fine .encodes) in
+            record {
+              tree = tree .root;
+              here = root-here;
+              ends = rw (found .end) (omega arith);
+              deep = fine .deep;
+              nodeRoom = rw zero-add (capacity-fits nodeWidth _ (t .nodes) (fine .nodesFit));
+              propRoom = rw zero-add (capacity-fits propertyWidth _ (t .properties) (fine .propertiesFit));
+              nodeFew = omega (arith, few .nodes);
+              propFew = omega (arith, few .properties);
+              small = small;
+            }
+
+        pub loaded : {nodes′ properties′ reserved′ : List ℕ} {next row prow : ℕ}
+            → ((rs : List Reservation) → listed b (v .reservations) ≡ ok rs → reserved′ ≡ sets (t .reservations) 0 (reservationNumbers rs))
+            → ((m : Node) → NodeHere b (block (v .strings)) (v .structure) m → record { next = next; row = row; prow = prow; nodes = nodes′; props = properties′ } ≡ nodeAfter b (block (v .strings)) m (v .structure) 0 0 format.NONE format.NONE (t .nodes) (t .properties))
+            → Loads t b (loadedNumbers (LoadedTree (v .tree))) (lent reserved′ nodes′ properties′)
+        unfolding lent tablesAfter numbers rows nodeAfter nodeWidth propertyWidth block tree
+        loaded {nodes′} {properties′} {reserved′} stored written =
+            let w = written (tree .root) root-here in
+            let first = stored (tree .reserved) (found .listed-at) in
+            let nodes-are : nodes′ ≡ sets (t .nodes) 0 (nodeNumbers (rows b tree .nodes)) =
+            ap (λ (s : State). s .nodes) w ∙ ap (λ q. sets (t .nodes) 0 (nodeNumbers (nodeRows (tree .root) q 0 0 format.NONE format.NONE))) (found .structure) in
+            let properties-are : properties′ ≡ sets (t .properties) 0 (propertyNumbers (rows b tree .properties)) =
+            ap (λ (s : State). s .props) w ∙ ap₂ (λ q k. sets (t .properties) 0 (propertyNumbers (nodeProperties b k (tree .root) q))) (found .structure) (found .start) in
+            record {
+              answers = found .says ∙ sym (ap (numbers treeNumbers) accepts);
+              leaves = rw (first, nodes-are, properties-are) (sym (ap (tablesAfter t b) accepts));
+            }
