@@ -5,6 +5,7 @@ use mathlib.Core.Logic.{_≢_}
 use Prim.Native.Nat.{ℕ, _+_, _≤_, _<_, _^_}
 use native.Mathlib.Omega.{arith}
 use mathlib.Core.List.{List}
+use mathlib.Core.Bool.{true}
 use lib.ListN.{length}
 use lib.Dec.{eqb}
 use borrow.Author.Tests.{eqb-true, eq-eqb, ne-eqb}
@@ -20,6 +21,35 @@ use Rattle.reader.proofs.Numbers.{word-total}
 use Rattle.loader.specs.Survey.{headerOf}
 use Rattle.loader.specs.declared.loading.Header.{Header}
 
+-- what has been read and judged so far: the magic number, then the size too, then the version too
+pub record Magic (b : List ℕ) : Type 0 where
+  pub word : ℕ
+  pub is : read-be-u32 b magicAt ≡ ok word
+  pub good : word ≡ magic
+
+pub record Sized (b : List ℕ) : Type 0 where
+  pub before : Magic b
+  pub word : ℕ
+  pub is : read-be-u32 b totalSizeAt ≡ ok word
+  pub good : word ≡ length b
+
+pub record Judged (b : List ℕ) : Type 0 where
+  pub before : Sized b
+  pub word : ℕ
+  pub is : read-be-u32 b versionAt ≡ ok word
+  pub good : word ≡ version
+
+-- what is left once the size has passed
+afterSize : List ℕ → Outcome read.Header
+afterSize b =
+    read-be-u32 b versionAt >>= λ v.
+    check (eqb v version) versionNotSupported >>= λ _.
+    read-be-u32 b structureAt >>= λ structure.
+    read-be-u32 b stringsAt >>= λ strings.
+    read-be-u32 b reservationsAt >>= λ reservations.
+    read-be-u32 b bootCpuAt >>= λ boot.
+    ok (record { structure = structure; strings = strings; reservations = reservations; boot = boot })
+
 module _ (b : List ℕ) where
   refuses : {r : Refusal} → read.header b ≡ refused r → headerOf b ≡ refused r
   unfolding headerOf
@@ -29,74 +59,61 @@ module _ (b : List ℕ) where
   unfolding read.header
   no-magic e = refuses (then-refused _ _ e)
 
-  module _ (m : ℕ) (isM : read-be-u32 b magicAt ≡ ok m) where
-    pub bad-magic : m ≢ magic → headerOf b ≡ refused invalidMagicNumber
+  pub bad-magic : {m : ℕ} → read-be-u32 b magicAt ≡ ok m → m ≢ magic → headerOf b ≡ refused invalidMagicNumber
+  unfolding read.header
+  bad-magic {m} e n = refuses (then-ok _ _ e (then-refused _ _ (check-no _ (ne-eqb m magic n))))
+
+  module _ (m : Magic b) where
+    good-magic : eqb (m .word) magic ≡ true
+    good-magic = eq-eqb (m .word) magic (m .good)
+
+    pub no-size : {r : Refusal} → read-be-u32 b totalSizeAt ≡ refused r → headerOf b ≡ refused r
     unfolding read.header
-    bad-magic n = refuses (then-ok _ _ isM (then-refused _ _ (check-no _ (ne-eqb m magic n))))
+    no-size e = refuses (then-ok _ _ (m .is) (then-ok _ _ (check-ok _ good-magic) (then-refused _ _ e)))
 
-    module _ (goodM : m ≡ magic) where
-      pub no-size : {r : Refusal} → read-be-u32 b totalSizeAt ≡ refused r → headerOf b ≡ refused r
-      unfolding read.header
-      no-size e = refuses (then-ok _ _ isM (then-ok _ _ (check-ok _ (eq-eqb m magic goodM)) (then-refused _ _ e)))
+    pub bad-size : {s : ℕ} → read-be-u32 b totalSizeAt ≡ ok s → s ≢ length b → headerOf b ≡ refused sizeMismatch
+    unfolding read.header
+    bad-size {s} e n = refuses (then-ok _ _ (m .is) (then-ok _ _ (check-ok _ good-magic) (then-ok _ _ e (then-refused _ _ (check-no _ (ne-eqb s (length b) n))))))
 
-      module _ (s : ℕ) (isS : read-be-u32 b totalSizeAt ≡ ok s) where
-        pub bad-size : s ≢ length b → headerOf b ≡ refused sizeMismatch
-        unfolding read.header
-        bad-size n = refuses (then-ok _ _ isM (then-ok _ _ (check-ok _ (eq-eqb m magic goodM)) (then-ok _ _ isS (then-refused _ _ (check-no _ (ne-eqb s (length b) n))))))
+  sized : Sized b → read.header b ≡ afterSize b
+  unfolding read.header afterSize
+  sized s =
+      then-ok _ _ (s .before .is) (then-ok _ _ (check-ok _ (good-magic (s .before)))
+      (then-ok _ _ (s .is) (then-ok _ _ (check-ok _ (eq-eqb (s .word) (length b) (s .good))) refl)))
 
-        module _ (goodS : s ≡ length b) where
-          -- what is left once the magic number and the size are right
-          unfoldable rest : Outcome read.Header
-          rest =
-              read-be-u32 b versionAt >>= λ v.
-              check (eqb v version) versionNotSupported >>= λ _.
-              read-be-u32 b structureAt >>= λ structure.
-              read-be-u32 b stringsAt >>= λ strings.
-              read-be-u32 b reservationsAt >>= λ reservations.
-              read-be-u32 b bootCpuAt >>= λ boot.
-              ok (record { structure = structure; strings = strings; reservations = reservations; boot = boot })
+  pub no-version : {r : Refusal} → Sized b → read-be-u32 b versionAt ≡ refused r → headerOf b ≡ refused r
+  unfolding afterSize
+  no-version s e = refuses (sized s ∙ then-refused _ _ e)
 
-          sized : read.header b ≡ rest
-          unfolding read.header rest
-          sized = then-ok _ _ isM (then-ok _ _ (check-ok _ (eq-eqb m magic goodM)) (then-ok _ _ isS (then-ok _ _ (check-ok _ (eq-eqb s (length b) goodS)) refl)))
+  pub bad-version : {v : ℕ} → Sized b → read-be-u32 b versionAt ≡ ok v → v ≢ version → headerOf b ≡ refused versionNotSupported
+  unfolding afterSize
+  bad-version {v} s e n = refuses (sized s ∙ then-ok _ _ e (then-refused _ _ (check-no _ (ne-eqb v version n))))
 
-          pub no-version : {r : Refusal} → read-be-u32 b versionAt ≡ refused r → headerOf b ≡ refused r
-          unfolding rest
-          no-version e = refuses (sized ∙ then-refused _ _ e)
+  module _ (j : Judged b) where
+    -- the words before the version are there where the version is, so a total read gives them
+    there : (p : ℕ) → p ≤ versionAt → read-be-u32 b p ≡ ok (orZero (read-be-u32 b p))
+    there p h = let inside : p + 4 ≤ length b = omega (arith, read-inside b 4 versionAt (j .is)) in read-there b 4 p inside ∙ ap ok (sym (word-total b p inside))
 
-          module _ (v : ℕ) (isV : read-be-u32 b versionAt ≡ ok v) where
-            pub bad-version : v ≢ version → headerOf b ≡ refused versionNotSupported
-            unfolding rest
-            bad-version n = refuses (sized ∙ then-ok _ _ isV (then-refused _ _ (check-no _ (ne-eqb v version n))))
+    judged : {r : Outcome read.Header}
+        → (read-be-u32 b bootCpuAt >>= λ boot. ok (record {
+          structure = orZero (read-be-u32 b structureAt);
+          strings = orZero (read-be-u32 b stringsAt);
+          reservations = orZero (read-be-u32 b reservationsAt);
+          boot = boot;
+        })) ≡ r → read.header b ≡ r
+    unfolding afterSize
+    judged e =
+        sized (j .before) ∙ then-ok _ _ (j .is) (then-ok _ _ (check-ok _ (eq-eqb (j .word) version (j .good)))
+        (then-ok _ _ (there structureAt (omega arith)) (then-ok _ _ (there stringsAt (omega arith)) (then-ok _ _ (there reservationsAt (omega arith)) e))))
 
-            module _ (goodV : v ≡ version) where
-              -- the words before the version are there where the version is
-              there : (p : ℕ) → p + 4 ≤ versionAt + 4 → read-be-u32 b p ≡ ok (wordAt b p)
-              there p h = read-there b 4 p (omega (arith, read-inside b 4 versionAt isV))
+    pub no-boot : {r : Refusal} → read-be-u32 b bootCpuAt ≡ refused r → headerOf b ≡ refused r
+    no-boot e = refuses (judged (then-refused _ _ e))
 
-              -- what a total read gives there
-              pub total : (p : ℕ) → p + 4 ≤ versionAt + 4 → orZero (read-be-u32 b p) ≡ wordAt b p
-              total p h = word-total b p (omega (arith, read-inside b 4 versionAt isV))
-
-              passed : {r : Outcome read.Header} → (read-be-u32 b bootCpuAt >>= λ boot.
-                  ok (record { structure = wordAt b structureAt; strings = wordAt b stringsAt; reservations = wordAt b reservationsAt; boot = boot })) ≡ r → read.header b ≡ r
-              unfolding rest
-              passed e =
-                  sized ∙ then-ok _ _ isV (then-ok _ _ (check-ok _ (eq-eqb v version goodV))
-                  (then-ok _ _ (there structureAt (omega arith)) (then-ok _ _ (there stringsAt (omega arith)) (then-ok _ _ (there reservationsAt (omega arith)) e))))
-
-              pub no-boot : {r : Refusal} → read-be-u32 b bootCpuAt ≡ refused r → headerOf b ≡ refused r
-              no-boot e = refuses (passed (then-refused _ _ e))
-
-              pub whole : (boot : ℕ) → read-be-u32 b bootCpuAt ≡ ok boot
-                  → headerOf b ≡ ok (record { structure = wordAt b structureAt; strings = wordAt b stringsAt; reservations = wordAt b reservationsAt; boot = boot })
-              unfolding headerOf
-              whole boot e = then-ok _ _ (passed (then-ok _ _ e refl)) refl
-
--- a header by its words
-pub header-words : {s s′ n n′ r r′ boot : ℕ} → s ≡ s′ → n ≡ n′ → r ≡ r′
-    → _≡_ {A = Outcome Header} (ok (record { structure = s; strings = n; reservations = r; boot = boot })) (ok (record { structure = s′; strings = n′; reservations = r′; boot = boot }))
-header-words {boot = boot} e₁ e₂ e₃ = cc
+    -- the whole header, by what the code's reads gave
+    pub whole : {s n r boot : ℕ} → s ≡ orZero (read-be-u32 b structureAt) → n ≡ orZero (read-be-u32 b stringsAt) → r ≡ orZero (read-be-u32 b reservationsAt)
+        → read-be-u32 b bootCpuAt ≡ ok boot → headerOf b ≡ ok (record { structure = s; strings = n; reservations = r; boot = boot })
+    unfolding headerOf
+    whole {s} {n} {r} {boot} e₁ e₂ e₃ e = then-ok _ _ (judged (then-ok _ _ e refl)) (rw (e₁, e₂, e₃))
 
 -- ---- a header that was read: the blob is small, and so is every offset
 

@@ -1,47 +1,83 @@
 -- `judge_header` meets its contract: each word that was read, and each test that it passed, goes to the header's outcome by one law.
 -- Assumes nothing.
-use mathlib.Core.Path.{_≡_, sym, ap, _∙_}
-use native.Mathlib.Omega.{arith}
+use mathlib.Core.Path.{_≡_, sym}
+use borrow.Author.Needs.{needs}
+use denote.Ref.{now}
 use Rattle.format.specs.Format.{magic, version}
 use Rattle.loader.specs.Check.{whyOf}
 use Rattle.loader.specs.Survey.{headerOutcome}
 use Rattle.reader.proofs.Outcomes.{word-got, word-short}
-use Rattle.loader.proofs.HeaderLaws.{no-magic, bad-magic, no-size, bad-size, no-version, bad-version, no-boot, whole, total, header-words}
-use borrow.Author.Needs.{needs}
+use Rattle.loader.proofs.HeaderLaws.{Magic, Sized, Judged, no-magic, bad-magic, no-size, bad-size, no-version, bad-version, no-boot, whole}
 use Rattle.loader.proofs.loading.judge_header.Statement.{statement}
 use Rattle.loader.proofs.loading.judge_header.Tie as tie
 
+-- what has passed at each test
+passed-magic : (c : tie.Else1) → Magic (now (c .before .before .before .before .before .before .args .b))
+unfolding magic
+passed-magic c =
+    let w = c .before .before in
+    record { word = w .magic .given .0 .0; is = word-got _ (w .magic .given .1) (w .before .before .read-be-u32 .ensures); good = c .if1 .left }
+
+passed-size : (c : tie.Else2) → Sized (now (c .before .before .before .before .before .before .before .before .before .before .before .args .b))
+passed-size c =
+    let w = c .before .before in
+    record {
+      before = passed-magic (w .before .before .before);
+      word = w .size .given .0 .0;
+      is = word-got _ (w .size .given .1) (w .before .before .read-be-u322 .ensures);
+      good = c .if2 .left;
+    }
+
+passed-version : (c : tie.Else3) → Judged (now (c .before .before .before .before .before .before .before .before .before .before .before .before .before .before .before .before .args .b))
+unfolding version
+passed-version c =
+    let w = c .before .before in
+    record {
+      before = passed-size (w .before .before .before);
+      word = w .version .given .0 .0;
+      is = word-got _ (w .version .given .1) (w .before .before .read-be-u323 .ensures);
+      good = c .if3 .left;
+    }
+
 returns : tie.Need-returns
-unfolding headerOutcome whyOf magic version
-returns c = sym (no-magic _ (word-short _ (c .enum-told .given .1) ((c .before .before) .read-be-u32 .ensures)))
+unfolding headerOutcome whyOf
+returns c = sym (no-magic _ (word-short _ (c .enum-told .given .1) (c .before .before .read-be-u32 .ensures)))
 
 returns-2 : tie.Need-returns-2
-unfolding headerOutcome whyOf magic version
-returns-2 c = sym (bad-magic _ _ (word-got _ ((c .before .before) .magic .given .1) ((c .before .before .before .before) .read-be-u32 .ensures)) (c .if1 .taken))
+unfolding headerOutcome whyOf magic
+returns-2 c = let w = c .before .before in sym (bad-magic _ (word-got _ (w .magic .given .1) (w .before .before .read-be-u32 .ensures)) (c .if1 .taken))
 
 returns-3 : tie.Need-returns-3
-unfolding headerOutcome whyOf magic version
-returns-3 c = sym (no-size _ _ (word-got _ ((c .before .before .before .before .before) .magic .given .1) ((c .before .before .before .before .before .before .before) .read-be-u32 .ensures)) ((c .before .before .before) .if1 .left) (word-short _ (c .enum-told2 .given .1) ((c .before .before) .read-be-u322 .ensures)))
+unfolding headerOutcome whyOf
+returns-3 c = let w = c .before .before in sym (no-size _ (passed-magic (w .before)) (word-short _ (c .enum-told2 .given .1) (w .read-be-u322 .ensures)))
 
 returns-4 : tie.Need-returns-4
-unfolding headerOutcome whyOf magic version
-returns-4 c = sym (bad-size _ _ (word-got _ ((c .before .before .before .before .before .before .before) .magic .given .1) ((c .before .before .before .before .before .before .before .before .before) .read-be-u32 .ensures)) ((c .before .before .before .before .before) .if1 .left) _ (word-got _ ((c .before .before) .size .given .1) ((c .before .before .before .before) .read-be-u322 .ensures)) (c .if2 .taken))
+unfolding headerOutcome whyOf
+returns-4 c =
+    let w = c .before .before in
+    sym (bad-size _ (passed-magic (w .before .before .before)) (word-got _ (w .size .given .1) (w .before .before .read-be-u322 .ensures)) (c .if2 .taken))
 
 returns-5 : tie.Need-returns-5
-unfolding headerOutcome whyOf magic version
-returns-5 c = sym (no-version _ _ (word-got _ ((c .before .before .before .before .before .before .before .before .before .before) .magic .given .1) ((c .before .before .before .before .before .before .before .before .before .before .before .before) .read-be-u32 .ensures)) ((c .before .before .before .before .before .before .before .before) .if1 .left) _ (word-got _ ((c .before .before .before .before .before) .size .given .1) ((c .before .before .before .before .before .before .before) .read-be-u322 .ensures)) ((c .before .before .before) .if2 .left) (word-short _ (c .enum-told3 .given .1) ((c .before .before) .read-be-u323 .ensures)))
+unfolding headerOutcome whyOf
+returns-5 c = let w = c .before .before in sym (no-version _ (passed-size (w .before)) (word-short _ (c .enum-told3 .given .1) (w .read-be-u323 .ensures)))
 
 returns-6 : tie.Need-returns-6
-unfolding headerOutcome whyOf magic version
-returns-6 c = sym (bad-version _ _ (word-got _ ((c .before .before .before .before .before .before .before .before .before .before .before .before) .magic .given .1) ((c .before .before .before .before .before .before .before .before .before .before .before .before .before .before) .read-be-u32 .ensures)) ((c .before .before .before .before .before .before .before .before .before .before) .if1 .left) _ (word-got _ ((c .before .before .before .before .before .before .before) .size .given .1) ((c .before .before .before .before .before .before .before .before .before) .read-be-u322 .ensures)) ((c .before .before .before .before .before) .if2 .left) _ (word-got _ ((c .before .before) .version .given .1) ((c .before .before .before .before) .read-be-u323 .ensures)) (c .if3 .taken))
+unfolding headerOutcome whyOf version
+returns-6 c =
+    let w = c .before .before in
+    sym (bad-version _ (passed-size (w .before .before .before)) (word-got _ (w .version .given .1) (w .before .before .read-be-u323 .ensures)) (c .if3 .taken))
 
 returns-7 : tie.Need-returns-7
-unfolding headerOutcome whyOf magic version
-returns-7 c = sym (no-boot _ _ (word-got _ ((c .before .before .before .before .before .before .before .before .before .before .before .before .before .before .before) .magic .given .1) ((c .before .before .before .before .before .before .before .before .before .before .before .before .before .before .before .before .before) .read-be-u32 .ensures)) ((c .before .before .before .before .before .before .before .before .before .before .before .before .before) .if1 .left) _ (word-got _ ((c .before .before .before .before .before .before .before .before .before .before) .size .given .1) ((c .before .before .before .before .before .before .before .before .before .before .before .before) .read-be-u322 .ensures)) ((c .before .before .before .before .before .before .before .before) .if2 .left) _ (word-got _ ((c .before .before .before .before .before) .version .given .1) ((c .before .before .before .before .before .before .before) .read-be-u323 .ensures)) ((c .before .before .before) .if3 .left) (word-short _ (c .enum-told4 .given .1) ((c .before .before) .read-be-u324 .ensures)))
+unfolding headerOutcome whyOf
+returns-7 c = let w = c .before .before in sym (no-boot _ (passed-version (w .before)) (word-short _ (c .enum-told4 .given .1) (w .read-be-u324 .ensures)))
 
 returns-8 : tie.Need-returns-8
-unfolding headerOutcome whyOf magic version
-returns-8 c = header-words ((c .before .before) .word-at .ensures ∙ total _ _ (word-got _ ((c .before .before .before .before .before .before .before .before .before .before .before .before .before .before .before .before .before .before .before) .magic .given .1) ((c .before .before .before .before .before .before .before .before .before .before .before .before .before .before .before .before .before .before .before .before .before) .read-be-u32 .ensures)) ((c .before .before .before .before .before .before .before .before .before .before .before .before .before .before .before .before .before) .if1 .left) _ (word-got _ ((c .before .before .before .before .before .before .before .before .before .before .before .before .before .before) .size .given .1) ((c .before .before .before .before .before .before .before .before .before .before .before .before .before .before .before .before) .read-be-u322 .ensures)) ((c .before .before .before .before .before .before .before .before .before .before .before .before) .if2 .left) _ (word-got _ ((c .before .before .before .before .before .before .before .before .before) .version .given .1) ((c .before .before .before .before .before .before .before .before .before .before .before) .read-be-u323 .ensures)) ((c .before .before .before .before .before .before .before) .if3 .left) 8 (omega arith)) ((c .before) .word-at2 .ensures ∙ total _ _ (word-got _ ((c .before .before .before .before .before .before .before .before .before .before .before .before .before .before .before .before .before .before .before) .magic .given .1) ((c .before .before .before .before .before .before .before .before .before .before .before .before .before .before .before .before .before .before .before .before .before) .read-be-u32 .ensures)) ((c .before .before .before .before .before .before .before .before .before .before .before .before .before .before .before .before .before) .if1 .left) _ (word-got _ ((c .before .before .before .before .before .before .before .before .before .before .before .before .before .before) .size .given .1) ((c .before .before .before .before .before .before .before .before .before .before .before .before .before .before .before .before) .read-be-u322 .ensures)) ((c .before .before .before .before .before .before .before .before .before .before .before .before) .if2 .left) _ (word-got _ ((c .before .before .before .before .before .before .before .before .before) .version .given .1) ((c .before .before .before .before .before .before .before .before .before .before .before) .read-be-u323 .ensures)) ((c .before .before .before .before .before .before .before) .if3 .left) 12 (omega arith)) (c .word-at3 .ensures ∙ total _ _ (word-got _ ((c .before .before .before .before .before .before .before .before .before .before .before .before .before .before .before .before .before .before .before) .magic .given .1) ((c .before .before .before .before .before .before .before .before .before .before .before .before .before .before .before .before .before .before .before .before .before) .read-be-u32 .ensures)) ((c .before .before .before .before .before .before .before .before .before .before .before .before .before .before .before .before .before) .if1 .left) _ (word-got _ ((c .before .before .before .before .before .before .before .before .before .before .before .before .before .before) .size .given .1) ((c .before .before .before .before .before .before .before .before .before .before .before .before .before .before .before .before) .read-be-u322 .ensures)) ((c .before .before .before .before .before .before .before .before .before .before .before .before) .if2 .left) _ (word-got _ ((c .before .before .before .before .before .before .before .before .before) .version .given .1) ((c .before .before .before .before .before .before .before .before .before .before .before) .read-be-u323 .ensures)) ((c .before .before .before .before .before .before .before) .if3 .left) 16 (omega arith)) ∙ sym (whole _ _ (word-got _ ((c .before .before .before .before .before .before .before .before .before .before .before .before .before .before .before .before .before .before .before) .magic .given .1) ((c .before .before .before .before .before .before .before .before .before .before .before .before .before .before .before .before .before .before .before .before .before) .read-be-u32 .ensures)) ((c .before .before .before .before .before .before .before .before .before .before .before .before .before .before .before .before .before) .if1 .left) _ (word-got _ ((c .before .before .before .before .before .before .before .before .before .before .before .before .before .before) .size .given .1) ((c .before .before .before .before .before .before .before .before .before .before .before .before .before .before .before .before) .read-be-u322 .ensures)) ((c .before .before .before .before .before .before .before .before .before .before .before .before) .if2 .left) _ (word-got _ ((c .before .before .before .before .before .before .before .before .before) .version .given .1) ((c .before .before .before .before .before .before .before .before .before .before .before) .read-be-u323 .ensures)) ((c .before .before .before .before .before .before .before) .if3 .left) _ (word-got _ ((c .before .before .before .before) .boot .given .1) ((c .before .before .before .before .before .before) .read-be-u324 .ensures)))
+unfolding headerOutcome
+returns-8 c =
+    let words = c .before .before in
+    let w = words .before .before in
+    sym (whole _ (passed-version (w .before .before .before)) (words .word-at .ensures) (c .before .word-at2 .ensures) (c .word-at3 .ensures)
+    (word-got _ (w .boot .given .1) (w .before .before .read-be-u324 .ensures)))
 
 pub judge-header-spec : {M : Type 1} → statement M
 judge-header-spec =
