@@ -6,23 +6,10 @@
 set -eu
 cd "$(dirname "$0")/.."
 
-source=${DEVICE_TREE_SRC:-/usr/share/cargo/registry/device_tree-1.1.0}
-made=target/compare
 stored=crates/queries
 program=target/bin/queries
-
-if [ ! -f "$source/src/util.rs" ]; then
-    echo "readers.sh: no device_tree 1.1.0 at $source." >&2
-    echo "On Debian: apt install librust-device-tree-dev rustc. Elsewhere set DEVICE_TREE_SRC to the crate's folder." >&2
-    exit 2
-fi
-
-# Sums that wrap stop the original, as in its own debug builds.
-mkdir -p "$made"
-rustc --edition 2015 --cap-lints allow --crate-type rlib --crate-name device_tree -O -C overflow-checks=on \
-    -o "$made/libdevice_tree.rlib" "$source/src/lib.rs"
-rustc --edition 2021 -O -C overflow-checks=on --extern device_tree="$made/libdevice_tree.rlib" \
-    -o "$made/readers" compare/readers.rs
+. compare/original.sh
+over_original readers compare/readers.rs
 
 # How many lines of two files of answers differ.
 differing() {

@@ -1,0 +1,85 @@
+// The original's answer as document 01's numbers and rows. 7 to 10 are not the original's: they come from its tree.
+use crate::scope::{self, align, Refusal, Room, Rows, DEPTH, NONE};
+use device_tree::util::SliceReadError;
+use device_tree::{DeviceTree, DeviceTreeError, Node};
+
+// What the original says. A panic, which no blob is known to cause, has a number that nothing else has.
+fn load(b: &[u8]) -> Result<DeviceTree, Refusal> {
+    let loaded = std::panic::catch_unwind(|| DeviceTree::load(b)).map_err(|_| vec![99])?;
+    loaded.map_err(|why| match why {
+        DeviceTreeError::InvalidMagicNumber => vec![1],
+        DeviceTreeError::SizeMismatch => vec![2],
+        DeviceTreeError::SliceReadError(SliceReadError::UnexpectedEndOfInput) => vec![3],
+        DeviceTreeError::ParseError(pos) => vec![4, pos as u64],
+        DeviceTreeError::Utf8Error => vec![5],
+        DeviceTreeError::VersionNotSupported => vec![6],
+    })
+}
+
+fn word(b: &[u8], pos: usize) -> usize {
+    u32::from_be_bytes([b[pos], b[pos + 1], b[pos + 2], b[pos + 3]]) as usize
+}
+
+// The rows that the original's tree comes to. It keeps no positions: they follow from the lengths of names and values.
+struct Laid<'a> {
+    b: &'a [u8],
+    rows: Rows,
+}
+
+impl<'a> Laid<'a> {
+    // The rows of a node that stands at a position. Returns what follows it, or 7 and where the depth is passed.
+    fn node(&mut self, node: &Node, pos: usize, depth: usize, parent: u64) -> Result<usize, Refusal> {
+        if DEPTH < depth {
+            return Err(vec![7, pos as u64]);
+        }
+        let (row, first) = (self.rows.nodes.len(), self.rows.props.len());
+        self.rows.nodes.push([
+            (pos + 4) as u64,
+            node.name.len() as u64,
+            parent,
+            NONE,
+            NONE,
+            first as u64,
+            node.props.len() as u64,
+        ]);
+        let mut at = align(pos + 4 + node.name.len() + 1);
+        for (name, value) in &node.props {
+            let from = word(self.b, 12) + word(self.b, at + 8);
+            // The name and the value are those bytes of the blob.
+            assert_eq!(name.as_bytes(), &self.b[from..from + name.len()]);
+            assert_eq!(value[..], self.b[at + 12..at + 12 + value.len()]);
+            self.rows.props.push([from as u64, name.len() as u64, (at + 12) as u64, value.len() as u64]);
+            at = align(at + 12 + value.len());
+        }
+        let mut before = None;
+        for child in &node.children {
+            let next = self.rows.nodes.len();
+            match before {
+                None => self.rows.nodes[row][3] = next as u64,
+                Some(sibling) => self.rows.nodes[sibling as usize][4] = next as u64,
+            }
+            before = Some(next);
+            at = self.node(child, at, depth + 1, row as u64)?;
+        }
+        assert_eq!(node.name.as_bytes(), &self.b[pos + 4..pos + 4 + node.name.len()]);
+        Ok(at + 4)
+    }
+}
+
+// The answer that is due, by the original.
+pub fn answer(b: &[u8], room: Room) -> Result<Rows, Refusal> {
+    match load(b) {
+        Ok(tree) => {
+            let mut laid = Laid { b, rows: Rows::default() };
+            laid.rows.boot = tree.boot_cpuid_phys as u64;
+            laid.rows.reserved = tree.reserved.iter().map(|(offset, size)| [*offset, *size]).collect();
+            laid.node(&tree.root, word(b, 8), 1, NONE)?;
+            scope::room(laid.rows, room)
+        }
+        // A refusal that the original meets below the depth is not ours: document 01's reading says whether it is.
+        Err(why) => match scope::read(b, DEPTH) {
+            Err(deep) if deep[0] == 7 && scope::read(b, usize::MAX).err() == Some(why.clone()) => Err(deep),
+            _ => Err(why),
+        },
+    }
+}
