@@ -40,11 +40,8 @@ fn finish(
     props: &mut [u32],
     text: &mut [u8],
 ) -> Output {
-    let said = answer::put(
-        text,
-        out,
-        answer::reply(line, frame, reserved, nodes, props),
-    );
+    let answer = answer::reply(line, frame, reserved, nodes, props);
+    let said = answer::put(text, out, answer);
     output::byte(text, said, b'\n')
 }
 
@@ -67,15 +64,8 @@ fn take_all(
         at = step.next;
         len = step.len;
         if step.ended {
-            out = finish(
-                input::upto(line, len),
-                out,
-                frame,
-                reserved,
-                nodes,
-                props,
-                text,
-            );
+            let whole = input::upto(line, len);
+            out = finish(whole, out, frame, reserved, nodes, props, text);
             len = 0;
         }
     }
@@ -83,6 +73,31 @@ fn take_all(
         len,
         out,
         going: true,
+    }
+}
+
+// The end of the input: a last line without its line end counts if it isn't empty.
+fn end(
+    line: &[u8],
+    out: Output,
+    frame: &mut [u8],
+    reserved: &mut [u64],
+    nodes: &mut [u32],
+    props: &mut [u32],
+    text: &mut [u8],
+) -> State {
+    if line.len() == 0 {
+        return State {
+            len: 0,
+            out,
+            going: false,
+        };
+    }
+    let last = finish(line, out, frame, reserved, nodes, props, text);
+    State {
+        len: 0,
+        out: output::flush(text, last),
+        going: false,
     }
 }
 
@@ -101,23 +116,12 @@ fn turn(
     let out = state.out;
     let got = libc::read(STDIN_FILENO, buffer);
     if got <= 0 {
-        return State {
-            len,
-            out,
-            going: false,
-        };
+        let last = input::upto(line, len);
+        return end(last, out, frame, reserved, nodes, props, text);
     }
     let n = io::count(got, buffer);
-    let taken = take_all(
-        input::upto(buffer, n),
-        state,
-        line,
-        frame,
-        reserved,
-        nodes,
-        props,
-        text,
-    );
+    let given = input::upto(buffer, n);
+    let taken = take_all(given, state, line, frame, reserved, nodes, props, text);
     let after = taken.out;
     let written = output::flush(text, after);
     State {
@@ -157,20 +161,5 @@ fn main() {
             &mut text,
         );
         turns -= 1;
-    }
-    // A last line without its line end.
-    let len = state.len;
-    let out = state.out;
-    if 0 < len {
-        let last = finish(
-            input::upto(&line, len),
-            out,
-            &mut frame,
-            &mut reserved,
-            &mut nodes,
-            &mut props,
-            &mut text,
-        );
-        output::flush(&text, last);
     }
 }

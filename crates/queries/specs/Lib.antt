@@ -2,3 +2,4 @@
 pub mod Buffers
 pub mod Fields
 pub mod Replies
+pub mod Tables

@@ -66,7 +66,7 @@ pub fn bytes(text: &mut [u8], from: Output, s: &[u8]) -> Output
 }
 
 // A number in decimal.
-fn number(text: &mut [u8], out: Output, n: u64) -> Output
+pub fn number(text: &mut [u8], out: Output, n: u64) -> Output
     requires { ⌜ Room out (now text) ⌝ }
     ensures { λ r. ⌜ Room r (now (text .exit)) ⌝ }
 {
@@ -76,12 +76,22 @@ fn number(text: &mut [u8], out: Output, n: u64) -> Output
 }
 
 // A space and a number.
-fn value(text: &mut [u8], out: Output, n: u64) -> Output
+pub fn value(text: &mut [u8], out: Output, n: u64) -> Output
     requires { ⌜ Room out (now text) ⌝ }
     ensures { λ r. ⌜ Room r (now (text .exit)) ⌝ }
 {
     let apart = byte(text, out, b' ');
     number(text, apart, n)
+}
+
+// What stands between two parts of an answer.
+pub fn part(text: &mut [u8], out: Output) -> Output
+    requires { ⌜ Room out (now text) ⌝ }
+    ensures { λ r. ⌜ Room r (now (text .exit)) ⌝ }
+{
+    let before = byte(text, out, b' ');
+    let between = byte(text, before, b';');
+    byte(text, between, b' ')
 }
 
 // An answer's number.
