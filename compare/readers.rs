@@ -2,9 +2,17 @@
 // Each line of standard input is answered by one line: 0 and values, a refusal, or 16 for a bad line.
 extern crate device_tree;
 
+#[path = "loads/original.rs"]
+mod original;
+#[path = "loads/scope.rs"]
+mod scope;
+
 use device_tree::util::{align, SliceRead};
 use std::io::{self, BufRead, BufWriter, Write};
 use std::panic::{catch_unwind, set_hook};
+
+// How many rows each table has room for.
+const ROWS: scope::Room = scope::Room { reservations: 64, nodes: 512, props: 512 };
 
 const ROOM: usize = 8192;
 const NAME: usize = 1024;
@@ -91,7 +99,7 @@ fn answer(line: &[u8]) -> Option<Answer> {
         },
         (b"T", [blob, path, name]) => {
             let (blob, _, _) = (bytes(blob)?, bytes_upto(path, NAME)?, bytes_upto(name, NAME)?);
-            Answer::Parts(loads::answer(&blob))
+            Answer::Parts(loaded(&blob))
         }
         _ => return None,
     })
@@ -105,141 +113,15 @@ fn listed(numbers: &[u64]) -> String {
     numbers.iter().map(|n| n.to_string()).collect::<Vec<_>>().join(" ")
 }
 
-// Loads by the original, as document 01's numbers and rows. 7 to 10 are not the original's: they come from its tree.
-mod loads {
-    use device_tree::util::SliceReadError;
-    use device_tree::{DeviceTree, DeviceTreeError, Node};
-
-    const NONE: u64 = 4294967295;
-    const DEPTH: usize = 16;
-    // How many rows each table has room for: reservations, nodes, properties.
-    const ROWS: [usize; 3] = [64, 512, 512];
-
-    type Refusal = Vec<u64>;
-
-    // What the original says. A panic, which no blob is known to cause, has a number that nothing else has.
-    fn load(b: &[u8]) -> Result<DeviceTree, Refusal> {
-        let loaded = std::panic::catch_unwind(|| DeviceTree::load(b)).map_err(|_| vec![99])?;
-        loaded.map_err(|why| match why {
-            DeviceTreeError::InvalidMagicNumber => vec![1],
-            DeviceTreeError::SizeMismatch => vec![2],
-            DeviceTreeError::SliceReadError(SliceReadError::UnexpectedEndOfInput) => vec![3],
-            DeviceTreeError::ParseError(pos) => vec![4, pos as u64],
-            DeviceTreeError::Utf8Error => vec![5],
-            DeviceTreeError::VersionNotSupported => vec![6],
-        })
-    }
-
-    fn word(b: &[u8], pos: usize) -> Option<usize> {
-        Some(u32::from_be_bytes(b.get(pos..pos + 4)?.try_into().ok()?) as usize)
-    }
-
-    fn aligned(pos: usize) -> usize {
-        (pos + 3) / 4 * 4
-    }
-
-    // The rows that the original's tree comes to. It keeps no positions: they follow from the lengths of names and values.
-    #[derive(Default)]
-    struct Rows {
-        nodes: Vec<[u64; 7]>,
-        props: Vec<[u64; 4]>,
-    }
-
-    impl Rows {
-        // The rows of a node that stands at a position. Returns what follows it, or 7 and where the depth is passed.
-        fn node(&mut self, b: &[u8], node: &Node, pos: usize, depth: usize, parent: u64) -> Result<usize, Refusal> {
-            if DEPTH < depth {
-                return Err(vec![7, pos as u64]);
-            }
-            let (row, first) = (self.nodes.len(), self.props.len());
-            // The names and values are those bytes of the blob.
-            assert_eq!(node.name.as_bytes(), &b[pos + 4..pos + 4 + node.name.len()]);
-            self.nodes.push([(pos + 4) as u64, node.name.len() as u64, parent, NONE, NONE, first as u64, node.props.len() as u64]);
-            let mut at = aligned(pos + 4 + node.name.len() + 1);
-            for (name, value) in &node.props {
-                let from = word(b, 12).unwrap() + word(b, at + 8).unwrap();
-                assert_eq!(name.as_bytes(), &b[from..from + name.len()]);
-                assert_eq!(value[..], b[at + 12..at + 12 + value.len()]);
-                self.props.push([from as u64, name.len() as u64, (at + 12) as u64, value.len() as u64]);
-                at = aligned(at + 12 + value.len());
-            }
-            let mut before = None;
-            for child in &node.children {
-                let next = self.nodes.len();
-                match before {
-                    None => self.nodes[row][3] = next as u64,
-                    Some(sibling) => self.nodes[sibling as usize][4] = next as u64,
-                }
-                before = Some(next);
-                at = self.node(b, child, at, depth + 1, row as u64)?;
-            }
-            Ok(at + 4)
+// The parts of a load's answer by the original: the load's, and the rows where it is 0.
+fn loaded(b: &[u8]) -> Vec<Vec<u64>> {
+    match original::answer(b, ROWS) {
+        Err(why) => vec![why],
+        Ok(rows) => {
+            let counts = [rows.reserved.len(), rows.nodes.len(), rows.props.len()].map(|n| n as u64);
+            let carries = [vec![0, 17, rows.boot], counts.to_vec()].concat();
+            vec![carries, rows.reserved.concat(), rows.nodes.concat(), rows.props.concat()]
         }
-    }
-
-    // Where a node opens below the depth before anything else is wrong: the original reads on, and refuses later or not.
-    // Returns what follows the node at a position, or the answer; None where the original's own refusal comes first.
-    fn deep(b: &[u8], pos: usize, depth: usize) -> Option<Result<usize, Refusal>> {
-        if DEPTH < depth {
-            return Some(Err(vec![7, pos as u64]));
-        }
-        let name = b.get(pos + 4..)?;
-        let mut at = aligned(pos + 4 + name.iter().position(|x| *x == 0)? + 1);
-        while word(b, at)? == 3 {
-            let value = at + 12 + word(b, at + 4)?;
-            let key = b.get(word(b, 12)? + word(b, at + 8)?..)?;
-            std::str::from_utf8(&key[..key.iter().position(|x| *x == 0)?]).ok()?;
-            b.get(value)?;
-            at = aligned(value);
-        }
-        while word(b, at)? == 1 {
-            match deep(b, at, depth + 1)? {
-                Ok(next) => at = next,
-                Err(why) => return Some(Err(why)),
-            }
-        }
-        if word(b, at)? != 2 {
-            return None;
-        }
-        std::str::from_utf8(&name[..name.iter().position(|x| *x == 0)?]).ok()?;
-        Some(Ok(at + 4))
-    }
-
-    // Whether the header and the reservations pass and the root opens: else no depth is reached.
-    fn root(b: &[u8]) -> Option<usize> {
-        let mut pos = word(b, 16)?;
-        while b.get(pos + 8..pos + 16)? != [0; 8] {
-            pos += 16;
-        }
-        let right = word(b, 0)? == 0xd00dfeed && word(b, 4)? == b.len() && word(b, 20)? == 17;
-        let start = word(b, 8)?;
-        (right && word(b, start)? == 1).then_some(start)
-    }
-
-    fn refusal(b: &[u8], why: Refusal) -> Refusal {
-        match root(b).and_then(|start| deep(b, start, 1)) {
-            Some(Err(deep)) => deep,
-            _ => why,
-        }
-    }
-
-    // The parts of the answer: the load's, and the rows where it is 0.
-    pub fn answer(b: &[u8]) -> Vec<Vec<u64>> {
-        let tree = match load(b) {
-            Ok(tree) => tree,
-            Err(why) => return vec![refusal(b, why)],
-        };
-        let mut rows = Rows::default();
-        if let Err(why) = rows.node(b, &tree.root, word(b, 8).unwrap(), 1, NONE) {
-            return vec![why];
-        }
-        let counts = [tree.reserved.len(), rows.nodes.len(), rows.props.len()];
-        if let Some(k) = (0..3).find(|k| ROWS[*k] < counts[*k]) {
-            return vec![vec![8 + k as u64, counts[k] as u64]];
-        }
-        let reserved = tree.reserved.iter().flat_map(|(offset, size)| [*offset, *size]).collect();
-        let carries = [0, 17, tree.boot_cpuid_phys as u64, counts[0] as u64, counts[1] as u64, counts[2] as u64];
-        vec![carries.to_vec(), reserved, rows.nodes.concat(), rows.props.concat()]
     }
 }
 
