@@ -10,11 +10,16 @@ use crate::Block;
 use crate::DeviceTreeError;
 use crate::Head;
 use crate::HeadRead;
+use crate::NAME_AT;
 use crate::Next;
 use crate::NodeRead;
+use crate::OFFSET_AT;
 use crate::Passed;
 use crate::Props;
 use crate::PropsRead;
+use crate::SIZE_AT;
+use crate::TOKEN;
+use crate::VALUE_AT;
 use reader::Checked;
 use reader::Place;
 use reader::Read;
@@ -38,13 +43,13 @@ pub(crate) fn check_prop(b: &[u8], strings: Block, pos: usize) -> Next
     requires { ⌜ Small (now b) strings × (pos + 4 ≤ length (now b)) ⌝ }
     ensures { λ r. ⌜ nextOutcome r ≡ nextOf (property (now (b .entry)) (block strings) pos) ⌝ }
 {
-    let Word::Got(size) = reader::read_be_u32(b, pos + 4) else {
+    let Word::Got(size) = reader::read_be_u32(b, pos + SIZE_AT) else {
         return Next::Refused(DeviceTreeError::UnexpectedEndOfInput);
     };
-    let Word::Got(offset) = reader::read_be_u32(b, pos + 8) else {
+    let Word::Got(offset) = reader::read_be_u32(b, pos + OFFSET_AT) else {
         return Next::Refused(DeviceTreeError::UnexpectedEndOfInput);
     };
-    let val_start = pos + 12;
+    let val_start = pos + VALUE_AT;
     let val_end = val_start + size as usize;
     let Span::Part { start: _, len: _ } = reader::subslice(b, val_start, val_end) else {
         return Next::Refused(DeviceTreeError::UnexpectedEndOfInput);
@@ -98,10 +103,10 @@ pub(crate) fn check_head(b: &[u8], strings: Block, pos: usize) -> HeadRead
     if token.number != Token::BEGIN_NODE {
         return HeadRead::Refused(DeviceTreeError::ParseError(pos));
     }
-    let Span::Part { start: _, len } = reader::read_bstring0(b, pos + 4) else {
+    let Span::Part { start: _, len } = reader::read_bstring0(b, pos + NAME_AT) else {
         return HeadRead::Refused(DeviceTreeError::UnexpectedEndOfInput);
     };
-    match check_props(b, strings, aligned(pos + 4 + len + 1)) {
+    match check_props(b, strings, aligned(pos + NAME_AT + len + 1)) {
         PropsRead::Good(own) => HeadRead::Good(Head {
             len,
             next: own.next,
@@ -123,7 +128,7 @@ pub(crate) fn check_end(b: &[u8], start: usize, len: usize, pos: usize) -> Next
         return Next::Refused(DeviceTreeError::ParseError(pos));
     }
     match reader::from_utf8(&b[start..start + len]) {
-        Checked::Utf8 => Next::At(pos + 4),
+        Checked::Utf8 => Next::At(pos + TOKEN),
         Checked::NotUtf8 => Next::Refused(DeviceTreeError::Utf8Error),
     }
 }
@@ -158,7 +163,7 @@ pub(crate) fn check_node(b: &[u8], strings: Block, depth: usize, pos: usize) -> 
         n += child.row;
         k += child.prow;
     }
-    match check_end(b, pos + 4, head.len, p) {
+    match check_end(b, pos + NAME_AT, head.len, p) {
         Next::At(next) => NodeRead::Good(Passed {
             next,
             row: n,

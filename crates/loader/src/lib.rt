@@ -44,6 +44,18 @@ pub enum Loaded {
     Refused(DeviceTreeError),
 }
 
+// ---- the structure block: how long a token is, and where the parts of a node and of a property stand, counted from their token
+
+const TOKEN: usize = 4;
+
+const NAME_AT: usize = 4;
+
+const SIZE_AT: usize = 4;
+
+const OFFSET_AT: usize = 8;
+
+const VALUE_AT: usize = 12;
+
 // ---- what the passes hand to one another
 
 // Where the names of properties stand: offsets count from the start, and a name's zero byte stands before the end.

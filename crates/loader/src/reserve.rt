@@ -15,7 +15,7 @@ use reader::Long;
 // How many bytes a reservation takes, its size after its offset.
 pub(crate) const ENTRY: usize = 16;
 
-const SIZE_AT: usize = 8;
+const LENGTH_AT: usize = 8;
 
 // "Stopping yields the position after" the entry that ends the list.
 pub(crate) fn scan(b: &[u8], pos: usize) -> Next
@@ -27,7 +27,7 @@ pub(crate) fn scan(b: &[u8], pos: usize) -> Next
         let Long::Got(_) = reader::read_be_u64(b, p) else {
             return Next::Refused(DeviceTreeError::UnexpectedEndOfInput);
         };
-        let Long::Got(size) = reader::read_be_u64(b, p + SIZE_AT) else {
+        let Long::Got(size) = reader::read_be_u64(b, p + LENGTH_AT) else {
             return Next::Refused(DeviceTreeError::UnexpectedEndOfInput);
         };
         p += ENTRY;
@@ -48,7 +48,7 @@ pub(crate) fn store(b: &[u8], pos: usize, table: &mut [u64])
     let mut at: usize = 0;
     loop {
         let offset = reader::long_at(b, p);
-        let size = reader::long_at(b, p + SIZE_AT);
+        let size = reader::long_at(b, p + LENGTH_AT);
         table[at] = offset;
         table[at + 1] = size;
         if size == 0 {

@@ -14,11 +14,16 @@ ghost use Rattle.loader.specs.Check.{block};
 ghost use Rattle.loader.specs.Pass.{PropReady, propNumbers, PropsHere, PropsReady, propsState, propsAfter};
 ghost use Rattle.loader.specs.Pass.{HeadReady, firstAt, childRow, HeadDone, NodeHere, NodeReady, passed, nodeAfter};
 use crate::Block;
+use crate::NAME_AT;
 use crate::NODE_WIDTH;
 use crate::NONE;
+use crate::OFFSET_AT;
 use crate::PROPERTY_WIDTH;
 use crate::Passed;
 use crate::Props;
+use crate::SIZE_AT;
+use crate::TOKEN;
+use crate::VALUE_AT;
 use crate::check::aligned;
 use reader::Token;
 
@@ -92,14 +97,21 @@ fn write_prop(b: &[u8], strings: Block, pos: usize, row: usize, props: &mut [u32
     ensures next { λ r. ⌜ r ≡ bytes.align (pos + 12 + wordAt (now (b .entry)) (pos + 4)) 4 ⌝ }
     ensures stored { λ _. ⌜ now (props .exit) ≡ sets (now (props .entry)) (propertyWidth * row) (propNumbers (now (b .entry)) (block strings) pos) ⌝ }
 {
-    let size = reader::word_at(b, pos + 4);
-    let offset = reader::word_at(b, pos + 8);
+    let size = reader::word_at(b, pos + SIZE_AT);
+    let offset = reader::word_at(b, pos + OFFSET_AT);
     let start = strings.start;
     let end = strings.end;
     let name = start + offset as usize;
     let len = reader::string_len(&b[..end], name);
-    put_prop(props, row, name as u32, len as u32, (pos + 12) as u32, size);
-    aligned(pos + 12 + size as usize)
+    put_prop(
+        props,
+        row,
+        name as u32,
+        len as u32,
+        (pos + VALUE_AT) as u32,
+        size,
+    );
+    aligned(pos + VALUE_AT + size as usize)
 }
 
 // The rows of the properties from pos on.
@@ -132,7 +144,7 @@ fn write_head(
     ensures { λ r. ⌜ ((xs : List Property) → PropsHere (now (b .entry)) (block strings) (firstAt (now (b .entry)) pos) xs
         → HeadDone (now (b .entry)) (block strings) xs pos row prow parent (now (nodes .entry)) (now (props .entry)) r (now (nodes .exit)) (now (props .exit))) ⌝ }
 {
-    let name = pos + 4;
+    let name = pos + NAME_AT;
     let len = reader::string_len(b, name);
     let own = write_props(b, strings, aligned(name + len + 1), prow, props);
     let next = own.next;
@@ -185,7 +197,7 @@ pub(crate) fn write_node(
         link(nodes, last, token, r as u32);
     }
     Passed {
-        next: p + 4,
+        next: p + TOKEN,
         row: r,
         prow: k,
     }

@@ -34,7 +34,7 @@ fn end(s: &[u8]) -> usize
 }
 
 // The first n bytes of s, or all of them where it has fewer.
-pub fn upto(s: &[u8], n: usize) -> &[u8]
+pub(crate) fn upto(s: &[u8], n: usize) -> &[u8]
     ensures { λ r. ⌜ now r ≡ take n (now (s .entry)) ⌝ }
 {
     if s.len() < n {
@@ -44,14 +44,14 @@ pub fn upto(s: &[u8], n: usize) -> &[u8]
 }
 
 // The first field of s.
-pub fn first(s: &[u8]) -> &[u8]
+pub(crate) fn first(s: &[u8]) -> &[u8]
     ensures { λ r. ⌜ now r ≡ firstOf (now (s .entry)) ⌝ }
 {
     upto(s, end(s))
 }
 
 // What follows the first field of s and its space, empty where nothing does. No field is empty, so a missing one is bad.
-pub fn rest(s: &[u8]) -> &[u8]
+pub(crate) fn rest(s: &[u8]) -> &[u8]
     ensures { λ r. ⌜ now r ≡ restOf (now (s .entry)) ⌝ }
 {
     let end = end(s);
@@ -80,7 +80,7 @@ fn wide(x: u8) -> usize
 }
 
 // The number that decimal digits spell.
-pub fn decimal(s: &[u8]) -> Number
+pub(crate) fn decimal(s: &[u8]) -> Number
     ensures { λ r. ⌜ r ≡ numberOf (now (s .entry)) ⌝ }
 {
     if s.len() == 0 {
@@ -136,7 +136,7 @@ fn pairs(s: &[u8], out: &mut [u8]) -> Count
 }
 
 // The bytes that a field spells, put at the start of out: `-`, or digits, no more than out has room for.
-pub fn bytes(s: &[u8], out: &mut [u8]) -> Count
+pub(crate) fn bytes(s: &[u8], out: &mut [u8]) -> Count
     ensures { λ r. ⌜ Put r (bytesOf (length (now (out .entry))) (now (s .entry))) (now (out .exit)) ⌝ }
 {
     if s.len() == 0 {

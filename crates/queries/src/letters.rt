@@ -35,7 +35,7 @@ enum Bounded {
 }
 
 // A line's answer. Its byte string is put into bytes, whose length is the most that one may have.
-pub fn reply(line: &[u8], bytes: &mut [u8]) -> Answer
+pub(crate) fn reply(line: &[u8], bytes: &mut [u8]) -> Answer
     ensures { λ r. ⌜ answerNumbers r ≡ replies.reply (length (now (bytes .entry))) (now (line .entry)) ⌝ }
 {
     if line.len() < 2 {

@@ -34,7 +34,7 @@ enum Asked {
 }
 
 // Whether a line's first field is the letter.
-pub fn asks(line: &[u8]) -> bool {
+pub(crate) fn asks(line: &[u8]) -> bool {
     let letter = fields::first(line);
     if letter.len() != 1 {
         return false;
@@ -43,7 +43,7 @@ pub fn asks(line: &[u8]) -> bool {
 }
 
 // T BLOB PATH NAME. The load's tables are lent, and so is the room for the three byte strings.
-pub fn answer(
+pub(crate) fn answer(
     line: &[u8],
     out: Output,
     bytes: &mut [u8],

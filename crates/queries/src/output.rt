@@ -13,7 +13,7 @@ pub struct Output {
 }
 
 // Hands out what waits.
-pub fn flush(text: &[u8], out: Output) -> Output
+pub(crate) fn flush(text: &[u8], out: Output) -> Output
     requires { ⌜ Room out (now text) ⌝ }
     ensures { λ r. ⌜ Room r (now (text .entry)) ⌝ }
 {
@@ -31,7 +31,7 @@ pub fn flush(text: &[u8], out: Output) -> Output
 }
 
 // A byte more. A full buffer is handed out first.
-pub fn byte(text: &mut [u8], out: Output, b: u8) -> Output
+pub(crate) fn byte(text: &mut [u8], out: Output, b: u8) -> Output
     requires { ⌜ Room out (now text) ⌝ }
     ensures { λ r. ⌜ Room r (now (text .exit)) ⌝ }
 {
@@ -52,7 +52,7 @@ pub fn byte(text: &mut [u8], out: Output, b: u8) -> Output
 }
 
 // All bytes of s.
-pub fn bytes(text: &mut [u8], from: Output, s: &[u8]) -> Output
+pub(crate) fn bytes(text: &mut [u8], from: Output, s: &[u8]) -> Output
     requires { ⌜ Room from (now text) ⌝ }
     ensures { λ r. ⌜ Room r (now (text .exit)) ⌝ }
 {
@@ -66,7 +66,7 @@ pub fn bytes(text: &mut [u8], from: Output, s: &[u8]) -> Output
 }
 
 // A number in decimal.
-pub fn number(text: &mut [u8], out: Output, n: u64) -> Output
+pub(crate) fn number(text: &mut [u8], out: Output, n: u64) -> Output
     requires { ⌜ Room out (now text) ⌝ }
     ensures { λ r. ⌜ Room r (now (text .exit)) ⌝ }
 {
@@ -76,7 +76,7 @@ pub fn number(text: &mut [u8], out: Output, n: u64) -> Output
 }
 
 // A space and a number.
-pub fn value(text: &mut [u8], out: Output, n: u64) -> Output
+pub(crate) fn value(text: &mut [u8], out: Output, n: u64) -> Output
     requires { ⌜ Room out (now text) ⌝ }
     ensures { λ r. ⌜ Room r (now (text .exit)) ⌝ }
 {
@@ -85,7 +85,7 @@ pub fn value(text: &mut [u8], out: Output, n: u64) -> Output
 }
 
 // What stands between two parts of an answer.
-pub fn part(text: &mut [u8], out: Output) -> Output
+pub(crate) fn part(text: &mut [u8], out: Output) -> Output
     requires { ⌜ Room out (now text) ⌝ }
     ensures { λ r. ⌜ Room r (now (text .exit)) ⌝ }
 {
@@ -109,7 +109,7 @@ fn code(answer: Answer) -> u64
 }
 
 // An answer: its number, then what it carries, by single spaces.
-pub fn put(text: &mut [u8], out: Output, answer: Answer) -> Output
+pub(crate) fn put(text: &mut [u8], out: Output, answer: Answer) -> Output
     requires { ⌜ Room out (now text) ⌝ }
     ensures { λ r. ⌜ Room r (now (text .exit)) ⌝ }
 {

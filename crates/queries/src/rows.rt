@@ -7,7 +7,7 @@ use crate::output;
 use crate::output::Output;
 
 // Every number of a table is n.
-pub fn fill_longs(table: &mut [u64], n: u64)
+pub(crate) fn fill_longs(table: &mut [u64], n: u64)
     ensures { λ r. ⌜ now (table .exit) ≡ replicate (length (now (table .entry))) n ⌝ }
 {
     let mut i = 0;
@@ -17,7 +17,7 @@ pub fn fill_longs(table: &mut [u64], n: u64)
     }
 }
 
-pub fn fill_words(table: &mut [u32], n: u32)
+pub(crate) fn fill_words(table: &mut [u32], n: u32)
     ensures { λ r. ⌜ now (table .exit) ≡ replicate (length (now (table .entry))) n ⌝ }
 {
     let mut i = 0;
@@ -67,7 +67,7 @@ fn put_words(text: &mut [u8], from: Output, table: &[u32]) -> Output
 }
 
 // The first n numbers of a table, as a part of an answer that follows others.
-pub fn part_of_longs(text: &mut [u8], out: Output, table: &[u64], n: usize) -> Output
+pub(crate) fn part_of_longs(text: &mut [u8], out: Output, table: &[u64], n: usize) -> Output
     requires { ⌜ Room out (now text) × (n ≤ length (now table)) ⌝ }
     ensures { λ r. ⌜ Room r (now (text .exit)) ⌝ }
 {
@@ -75,7 +75,7 @@ pub fn part_of_longs(text: &mut [u8], out: Output, table: &[u64], n: usize) -> O
     put_longs(text, begun, &table[..n])
 }
 
-pub fn part_of_words(text: &mut [u8], out: Output, table: &[u32], n: usize) -> Output
+pub(crate) fn part_of_words(text: &mut [u8], out: Output, table: &[u32], n: usize) -> Output
     requires { ⌜ Room out (now text) × (n ≤ length (now table)) ⌝ }
     ensures { λ r. ⌜ Room r (now (text .exit)) ⌝ }
 {
