@@ -1,6 +1,6 @@
 #!/bin/sh
 # The original's loader beside the static library on whole blobs: answers and every row.
-#   linked.sh [--seed N] BLOB..    any .dtb files; without any, those of samples/
+#   linked.sh [--seed N] BLOB..    any .dtb files
 set -eu
 here=$(cd "$(dirname "$0")" && pwd)
 seed=1
