@@ -6,7 +6,9 @@ use Rattle.capi.proofs.put_place.Statement.{statement}
 use Rattle.capi.proofs.put_place.Tie as tie
 
 returns : tie.Need-returns
-returns c = cc ((c .before .before) .put2 .ensures, (c .before .before .before .before .before .before) .put .ensures)
+returns c =
+    let second = c .before .before in
+    second .put2 .ensures ∙ ap (λ t. set t 1 _) (second .before .before .before .before .put .ensures)
 
 pub put-place-spec : {M : Type 1} → statement M
 put-place-spec = tie.close (tie.spec (λ c κs. search needs) (λ c κs. search needs) (λ c. search needs) returns)

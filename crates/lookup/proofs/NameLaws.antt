@@ -1,0 +1,195 @@
+-- Comparing parts, a byte and a word at a time, and the first name of a path. Assumes, for words, that the elements are bytes.
+use mathlib.Core.Path.{_≡_, refl, sym, ap, _∙_}
+use mathlib.Core.Logic.{_≢_}
+use Prim.Native.Nat.{ℕ, zero, suc, _+_, _-_, _*_, _≤_, _<_}
+use native.Mathlib.Omega.{arith}
+use native.Mathlib.Nat.{add-zero}
+use native.Mathlib.Numerals.{add-one}
+use mathlib.Core.List.{List, [], _∷_, _++_, append-assoc, append-nil}
+use mathlib.Core.Bool.{Bool, true, false, _&&_}
+use lib.Dec.{eqb}
+use lib.ListN.{length, take, drop, getD, length-drop, drop-of-length-le}
+use lib.Seq.{take-suc, drop-cons, getD-drop, getD-take, ext-getD}
+use borrow.Author.Tests.{eqb-true, eqb-false, eq-eqb, ne-eqb}
+use Rattle.format.specs.Choice.{if_then_else_}
+use Rattle.format.specs.Answer.{orZero}
+use Rattle.format.specs.Bytes.{part, wordAt, AreBytes}
+use Rattle.format.specs.Read.{read-be-u32}
+use Rattle.format.specs.Find.{SLASH, head, rest, same}
+use Rattle.format.proofs.Tools.{split, both, tested, never-both, if-yes, if-no}
+use Rattle.format.proofs.Bytes.{part-length}
+use Rattle.reader.proofs.Numbers.{word-bytes, word-total}
+use Rattle.lookup.specs.Places.{NameEnd}
+
+-- ---- the same bytes
+
+same-eq : (xs ys : List ℕ) → same xs ys ≡ true → xs ≡ ys
+unfolding same
+same-eq [] [] e = refl
+same-eq [] (y ∷ ys) e = let z : _≡_ {A = ℕ} 0 1 = cc in absurd (omega arith)
+same-eq (x ∷ xs) [] e = let z : _≡_ {A = ℕ} 0 1 = cc in absurd (omega arith)
+same-eq (x ∷ xs) (y ∷ ys) e =
+    let h = both (eqb x y) (same xs ys) e in
+    let p = eqb-true x y (h .0) in
+    let q = same-eq xs ys (h .1) in
+    cc
+
+same-self : (xs : List ℕ) → same xs xs ≡ true
+unfolding same
+same-self [] = refl
+same-self (x ∷ xs) = rw (eq-eqb x x refl, same-self xs)
+
+unequal : (xs ys : List ℕ) → (xs ≡ ys → ⊥) → same xs ys ≡ false
+unequal xs ys n = tested (same xs ys) (λ e. absurd (n (same-eq xs ys e))) (λ e. e)
+
+pub length-differs : (s : List ℕ) (a n : ℕ) (t : List ℕ) (b m : ℕ) → a + n ≤ length s → b + m ≤ length t → n ≢ m → false ≡ same (part s a n) (part t b m)
+length-differs s a n t b m fs ft d = sym (unequal (part s a n) (part t b m) (λ e. d (sym (part-length s a n fs) ∙ ap length e ∙ part-length t b m ft)))
+
+module _ (s : List ℕ) (a : ℕ) (t : List ℕ) (b n : ℕ) where
+  -- every byte from i on is the same
+  abbrev pub Alike : ℕ → Type 0
+  Alike i = (k : ℕ) → i ≤ k → k < n → getD s (a + k) 0 ≡ getD t (b + k) 0
+
+  part-byte : (l : List ℕ) (p i : ℕ) → i < n → getD (part l p n) i 0 ≡ getD l (p + i) 0
+  unfolding part
+  part-byte l p i h = getD-take n (drop p l) i 0 h ∙ getD-drop p l i 0
+
+  parts-alike : part s a n ≡ part t b n → Alike 0
+  parts-alike e k lo h = sym (part-byte s a k h) ∙ ap (λ l. getD l k 0) e ∙ part-byte t b k h
+
+  module _ (fs : a + n ≤ length s) (ft : b + n ≤ length t) where
+    pub alike-same : Alike 0 → true ≡ same (part s a n) (part t b n)
+    alike-same h =
+        let size : length (part s a n) ≡ length (part t b n) = part-length s a n fs ∙ sym (part-length t b n ft) in
+        let e : part s a n ≡ part t b n = ext-getD 0 (part s a n) (part t b n) size (λ i k.
+        let inside : i < n = omega (arith, part-length s a n fs) in
+        part-byte s a i inside ∙ h i (omega arith) inside ∙ sym (part-byte t b i inside)) in
+        sym (rw e (same-self (part t b n)))
+
+    pub byte-differs : (i : ℕ) → i < n → getD s (a + i) 0 ≢ getD t (b + i) 0 → false ≡ same (part s a n) (part t b n)
+    byte-differs i h d = sym (unequal (part s a n) (part t b n) (λ e. d (parts-alike e i (omega arith) h)))
+
+-- one byte further to the front
+pub alike-more : (s : List ℕ) (a : ℕ) (t : List ℕ) (b n i : ℕ) → 0 < i → Alike s a t b n i → getD s (a + (i - 1)) 0 ≡ getD t (b + (i - 1)) 0 → Alike s a t b n (i - 1)
+alike-more s a t b n i pos all e k h l = split i k (λ g. all k g l) (λ g.
+    let same : i - 1 ≡ k = omega arith in
+    rw same at e)
+
+-- ---- a word at a time
+
+-- words that are the same have the same bytes
+four-alike : (s t : List ℕ) (p q : ℕ) → AreBytes s → AreBytes t → p + 4 ≤ length s → q + 4 ≤ length t → wordAt s p ≡ wordAt t q
+    → (j : ℕ) → j < 4 → getD s (p + j) 0 ≡ getD t (q + j) 0
+unfolding AreBytes
+four-alike s t p q bs bt fs ft e j h =
+    let x = word-bytes s p fs in
+    let y = word-bytes t q ft in
+    let each : (getD s p 0 ≡ getD t q 0) × (getD s (p + 1) 0 ≡ getD t (q + 1) 0) × (getD s (p + 2) 0 ≡ getD t (q + 2) 0) × (getD s (p + 3) 0 ≡ getD t (q + 3) 0) = (
+      omega (arith, bs p, bs (p + 1), bs (p + 2), bs (p + 3), bt q, bt (q + 1), bt (q + 2), bt (q + 3)),
+      omega (arith, bs p, bs (p + 1), bs (p + 2), bs (p + 3), bt q, bt (q + 1), bt (q + 2), bt (q + 3)),
+      omega (arith, bs p, bs (p + 1), bs (p + 2), bs (p + 3), bt q, bt (q + 1), bt (q + 2), bt (q + 3)),
+      omega (arith, bs p, bs (p + 1), bs (p + 2), bs (p + 3), bt q, bt (q + 1), bt (q + 2), bt (q + 3)),
+    ) in
+    by-place j h each
+  where
+    by-place : (j : ℕ) → j < 4
+        → (getD s p 0 ≡ getD t q 0) × (getD s (p + 1) 0 ≡ getD t (q + 1) 0) × (getD s (p + 2) 0 ≡ getD t (q + 2) 0) × (getD s (p + 3) 0 ≡ getD t (q + 3) 0)
+        → getD s (p + j) 0 ≡ getD t (q + j) 0
+    by-place zero h each = rw (add-zero p, add-zero q) (each .0)
+    by-place (suc zero) h each = each .1
+    by-place (suc (suc zero)) h each = each .2
+    by-place (suc (suc (suc zero))) h each = each .3
+    by-place (suc (suc (suc (suc j)))) h each = absurd (omega arith)
+
+module _ (s : List ℕ) (a : ℕ) (t : List ℕ) (b n : ℕ) (bs : AreBytes s) (bt : AreBytes t) (fs : a + n ≤ length s) (ft : b + n ≤ length t) (i : ℕ) (h : i + 4 ≤ n) where
+  abbrev ours : ℕ
+  ours = orZero (read-be-u32 s (a + i))
+
+  abbrev theirs : ℕ
+  theirs = orZero (read-be-u32 t (b + i))
+
+  pub word-alike : ours ≡ theirs → Alike s a t b n (i + 4) → Alike s a t b n i
+  word-alike e all k lo l = split (i + 4) k (λ g. all k g l) (λ g.
+      let x : a + i + (k - i) ≡ a + k = omega arith in
+      let y : b + i + (k - i) ≡ b + k = omega arith in
+      let words : wordAt s (a + i) ≡ wordAt t (b + i) = sym (word-total s (a + i) (omega arith)) ∙ e ∙ word-total t (b + i) (omega arith) in
+      rw (x, y) at (four-alike s t (a + i) (b + i) bs bt (omega arith) (omega arith) words (k - i) (omega arith)))
+
+  pub word-differs : ours ≢ theirs → false ≡ same (part s a n) (part t b n)
+  word-differs d = sym (unequal (part s a n) (part t b n) (λ e.
+      let all = parts-alike s a t b n e in
+      let x : a + i + 1 ≡ a + (i + 1) = omega arith in
+      let x₂ : a + i + 2 ≡ a + (i + 2) = omega arith in
+      let x₃ : a + i + 3 ≡ a + (i + 3) = omega arith in
+      let y : b + i + 1 ≡ b + (i + 1) = omega arith in
+      let y₂ : b + i + 2 ≡ b + (i + 2) = omega arith in
+      let y₃ : b + i + 3 ≡ b + (i + 3) = omega arith in
+      let words : wordAt s (a + i) ≡ wordAt t (b + i) = omega (
+        arith,
+        word-bytes s (a + i) (omega arith),
+        word-bytes t (b + i) (omega arith),
+        all i (omega arith) (omega arith),
+        rw (← x, ← y) at (all (i + 1) (omega arith) (omega arith)),
+        rw (← x₂, ← y₂) at (all (i + 2) (omega arith) (omega arith)),
+        rw (← x₃, ← y₃) at (all (i + 3) (omega arith) (omega arith)),
+      ) in
+      d (word-total s (a + i) (omega arith) ∙ words ∙ sym (word-total t (b + i) (omega arith)))))
+
+-- the word that is compared last
+pub last-word : (s : List ℕ) (a : ℕ) (t : List ℕ) (b n : ℕ) → AreBytes s → AreBytes t → a + n ≤ length s → b + n ≤ length t → 4 ≤ n → Alike s a t b n 4
+    → eqb (orZero (read-be-u32 s a)) (orZero (read-be-u32 t b)) ≡ same (part s a n) (part t b n)
+last-word s a t b n bs bt fs ft h all =
+    tested (eqb (orZero (read-be-u32 s a)) (orZero (read-be-u32 t b)))
+    (λ e. e ∙ alike-same s a t b n fs ft (word-alike s a t b n bs bt fs ft 0 h (rw (add-zero a, add-zero b) (eqb-true _ _ e)) all))
+    (λ e. e ∙ word-differs s a t b n bs bt fs ft 0 h (rw (add-zero a, add-zero b) (eqb-false _ _ e)))
+
+-- ---- the first name of a path
+
+-- the bytes from `at` up to i have no slash
+pub record Scan (p : List ℕ) (at i : ℕ) : Type 0 where
+  pub low : at ≤ i
+  pub high : at ≤ length p → i ≤ length p
+  pub first : head (drop at p) ≡ part p at (i - at) ++ head (drop i p)
+  pub later : rest (drop at p) ≡ rest (drop i p)
+
+pub scan-start : (p : List ℕ) (at : ℕ) → Scan p at at
+unfolding part
+scan-start p at =
+    let e : at - at ≡ 0 = omega arith in
+    record { low = omega arith; high = λ h. h; first = rw e; later = refl }
+
+one-more : (p : List ℕ) (at i : ℕ) → at ≤ i → i < length p → part p at (i + 1 - at) ≡ part p at (i - at) ++ getD p i 0 ∷ []
+unfolding part
+one-more p at i h k =
+    let e : i + 1 - at ≡ suc (i - at) = omega arith in
+    let f : at + (i - at) ≡ i = omega arith in
+    rw e (take-suc (drop at p) (i - at) 0 (rw length-drop (omega arith)) ∙ rw (getD-drop, f))
+
+pub scan-more : (p : List ℕ) (at i : ℕ) → Scan p at i → i < length p → getD p i 0 ≢ 0x2f → Scan p at (i + 1)
+unfolding head rest SLASH
+scan-more p at i x h d =
+    let n = ne-eqb (getD p i 0) 0x2f d in
+    let e₁ : head (drop i p) ≡ getD p i 0 ∷ head (drop (i + 1) p) = rw (add-one i, drop-cons p i 0 h) (if-no _ _ n) in
+    let e₂ : rest (drop i p) ≡ rest (drop (i + 1) p) = rw (add-one i, drop-cons p i 0 h) (if-no _ _ n) in
+    record {
+      low = omega (arith, x .low);
+      high = λ k. omega arith;
+      first = x .first ∙ rw (e₁, one-more p at i (x .low) h, append-assoc);
+      later = x .later ∙ e₂;
+    }
+
+pub scan-slash : (p : List ℕ) (at i : ℕ) → Scan p at i → i < length p → getD p i 0 ≡ 0x2f → NameEnd p at i
+unfolding head rest SLASH
+scan-slash p at i x h d =
+    let n = eq-eqb (getD p i 0) 0x2f d in
+    let e₁ : head (drop i p) ≡ [] = rw (drop-cons p i 0 h) (if-yes _ _ n) in
+    let e₂ : rest (drop i p) ≡ drop (i + 1) p = rw (add-one i, drop-cons p i 0 h) (if-yes _ _ n) in
+    record { low = x .low; high = x .high; first = x .first ∙ rw (e₁, append-nil); later = x .later ∙ e₂ }
+
+pub scan-end : (p : List ℕ) (at i : ℕ) → Scan p at i → length p ≤ i → NameEnd p at i
+unfolding head rest
+scan-end p at i x h =
+    let e₁ : drop i p ≡ [] = drop-of-length-le p h in
+    let k : length p ≤ i + 1 = omega arith in
+    let e₂ : drop (i + 1) p ≡ [] = drop-of-length-le p k in
+    record { low = x .low; high = x .high; first = x .first ∙ rw (e₁, append-nil); later = x .later ∙ rw (e₁, e₂) }

@@ -1,0 +1,104 @@
+-- The rows that a table holds, by their places in it, and where a good link leads. Assumes nothing.
+use mathlib.Core.Path.{_≡_, refl, sym, ap, _∙_}
+use mathlib.Core.Logic.{_≢_}
+use Prim.Native.Nat.{ℕ, zero, suc, _+_, _-_, _*_, _<_}
+use native.Mathlib.Omega.{arith}
+use mathlib.Core.List.{List, [], _∷_}
+use mathlib.Core.Bool.{Bool, true, false, _&&_, _||_}
+use lib.Dec.{eqb, ltb}
+use lib.ListN.{length, drop, getD}
+use lib.Seq.{getD-drop}
+use borrow.Author.Tests.{eqb-true, eqb-false, ltb-true, eq-eqb, ne-eqb}
+use Rattle.format.specs.Choice.{if_then_else_}
+use Rattle.format.specs.Format.{NONE, nodeWidth, propertyWidth}
+use Rattle.format.specs.Rows.{at, nodesIn, propertiesIn}
+use Rattle.format.specs.Rows as rows
+use Rattle.format.specs.Lookup.{linkGood, linksGood}
+use Rattle.format.proofs.Tools.{both, tested, if-yes, if-no}
+use Rattle.lookup.specs.Places.{nodeAt, propertyAt, IsNode, IsProperty}
+use Rattle.lookup.specs.declared.judge.NodeRow.{NodeRow}
+use Rattle.lookup.specs.declared.judge.PropRow.{PropRow}
+
+-- ---- rows by their places
+
+moved : (t : List ℕ) (w i j : ℕ) → w + i ≡ j → getD (drop w t) i 0 ≡ getD t j 0
+moved t w i j e = getD-drop w t i 0 ∙ ap (λ k. getD t k 0) e
+
+pub nodes-length : (n : ℕ) (t : List ℕ) → length (nodesIn n t) ≡ n
+unfolding nodesIn
+nodes-length zero t = refl
+nodes-length (suc n) t = ap suc (nodes-length n (drop nodeWidth t))
+
+node-shift : (t : List ℕ) (r : ℕ) → nodeAt (drop nodeWidth t) r ≡ nodeAt t (suc r)
+unfolding nodeAt nodeWidth
+node-shift t r =
+    let e₀ = moved t 7 (7 * r) (7 * suc r) (omega arith) in
+    let e₁ = moved t 7 (7 * r + 1) (7 * suc r + 1) (omega arith) in
+    let e₂ = moved t 7 (7 * r + 2) (7 * suc r + 2) (omega arith) in
+    let e₃ = moved t 7 (7 * r + 3) (7 * suc r + 3) (omega arith) in
+    let e₄ = moved t 7 (7 * r + 4) (7 * suc r + 4) (omega arith) in
+    let e₅ = moved t 7 (7 * r + 5) (7 * suc r + 5) (omega arith) in
+    let e₆ = moved t 7 (7 * r + 6) (7 * suc r + 6) (omega arith) in
+    cc
+
+pub node-is : (n : ℕ) (t : List ℕ) (r : ℕ) → r < n → at (nodesIn n t) r ≡ nodeAt t r
+unfolding nodesIn at nodeAt nodeWidth
+node-is zero t r h = absurd (omega arith)
+node-is (suc n) t zero h = refl
+node-is (suc n) t (suc r) h = node-is n (drop 7 t) r (omega arith) ∙ node-shift t r
+
+pub properties-length : (n : ℕ) (t : List ℕ) → length (propertiesIn n t) ≡ n
+unfolding propertiesIn
+properties-length zero t = refl
+properties-length (suc n) t = ap suc (properties-length n (drop propertyWidth t))
+
+property-shift : (t : List ℕ) (k : ℕ) → propertyAt (drop propertyWidth t) k ≡ propertyAt t (suc k)
+unfolding propertyAt propertyWidth
+property-shift t k =
+    let e₀ = moved t 4 (4 * k) (4 * suc k) (omega arith) in
+    let e₁ = moved t 4 (4 * k + 1) (4 * suc k + 1) (omega arith) in
+    let e₂ = moved t 4 (4 * k + 2) (4 * suc k + 2) (omega arith) in
+    let e₃ = moved t 4 (4 * k + 3) (4 * suc k + 3) (omega arith) in
+    cc
+
+pub property-is : (n : ℕ) (t : List ℕ) (k : ℕ) → k < n → rows.propertyAt (propertiesIn n t) k ≡ propertyAt t k
+unfolding propertiesIn rows.propertyAt propertyAt propertyWidth
+property-is zero t k h = absurd (omega arith)
+property-is (suc n) t zero h = refl
+property-is (suc n) t (suc k) h = property-is n (drop 4 t) k (omega arith) ∙ property-shift t k
+
+-- the numbers that were read are the row's
+pub node-read : (n : ℕ) (t : List ℕ) (r : ℕ) (x : NodeRow) → r < n → IsNode x (nodeAt t r) → IsNode x (at (nodesIn n t) r)
+node-read n t r x h is = rw (node-is n t r h) is
+
+pub property-read : (n : ℕ) (t : List ℕ) (k : ℕ) (x : PropRow) → k < n → IsProperty x (propertyAt t k) → IsProperty x (rows.propertyAt (propertiesIn n t) k)
+property-read n t k x h is = rw (property-is n t k h) is
+
+-- ---- links
+
+module _ (R : List rows.NodeRow) where
+  -- where a good link leads
+  pub leads : (r l : ℕ) → linkGood R r l ≡ true → l ≢ NONE → (r < l) × (l < length R)
+  unfolding linkGood
+  leads r l e n =
+      let h = both (ltb r l) (ltb l (length R)) (rw (ne-eqb l NONE n) at e) in
+      (ltb-true _ _ (h .0), ltb-true _ _ (h .1))
+
+  pub links-of : (r : ℕ) → linksGood R r ≡ true → (linkGood R r (at R r .firstChild) ≡ true) × (linkGood R r (at R r .nextSibling) ≡ true)
+  unfolding linksGood
+  links-of r e = both (linkGood R r (at R r .firstChild)) (linkGood R r (at R r .nextSibling)) e
+
+-- how many rows are ahead of a link
+unfoldable pub ahead : ℕ → ℕ → ℕ
+ahead n link = if eqb link NONE then 0 else (n - link)
+
+-- fewer from link to link
+pub fewer-ahead : (R : List rows.NodeRow) (r l : ℕ) → r ≢ NONE → r < length R → linkGood R r l ≡ true → ahead (length R) l < ahead (length R) r
+unfolding ahead
+fewer-ahead R r l some h e =
+    let here : (if eqb r NONE then 0 else (length R - r)) ≡ length R - r = if-no _ _ (ne-eqb r NONE some) in
+    tested (eqb l NONE)
+    (λ t. let there : (if eqb l NONE then 0 else (length R - l)) ≡ 0 = if-yes _ _ t in omega arith)
+    (λ t. let there : (if eqb l NONE then 0 else (length R - l)) ≡ length R - l = if-no _ _ t in
+    let k = leads R r l e (eqb-false l NONE t) in
+    omega arith)

@@ -1,0 +1,68 @@
+-- Rows by the numbers of their table, and the places that private functions go by. No public promise cites it.
+use mathlib.Core.Path.{_≡_}
+use Prim.Native.Nat.{ℕ, _+_, _-_, _*_, _≤_, _<_}
+use mathlib.Core.Bool.{true}
+use mathlib.Core.List.{List}
+use lib.ListN.{length, getD, drop}
+use Rattle.format.specs.Bytes.{part}
+use Rattle.format.specs.Format.{nodeWidth, propertyWidth}
+use Rattle.format.specs.Rows.{nodesIn}
+use Rattle.format.specs.Rows as rows
+use Rattle.format.specs.Find.{head, rest}
+use Rattle.format.specs.Lookup.{linksGood}
+use Rattle.lookup.specs.declared.judge.NodeRow.{NodeRow}
+use Rattle.lookup.specs.declared.judge.PropRow.{PropRow}
+
+-- row r of a table
+unfoldable pub nodeAt : List ℕ → ℕ → rows.NodeRow
+nodeAt t r = record {
+  nameOffset = getD t (nodeWidth * r) 0;
+  nameLength = getD t (nodeWidth * r + 1) 0;
+  parent = getD t (nodeWidth * r + 2) 0;
+  firstChild = getD t (nodeWidth * r + 3) 0;
+  nextSibling = getD t (nodeWidth * r + 4) 0;
+  firstProperty = getD t (nodeWidth * r + 5) 0;
+  propertyCount = getD t (nodeWidth * r + 6) 0;
+}
+
+unfoldable pub propertyAt : List ℕ → ℕ → rows.PropertyRow
+propertyAt t k = record {
+  nameOffset = getD t (propertyWidth * k) 0;
+  nameLength = getD t (propertyWidth * k + 1) 0;
+  valueOffset = getD t (propertyWidth * k + 2) 0;
+  valueLength = getD t (propertyWidth * k + 3) 0;
+}
+
+-- the numbers of a row that were read are that row's
+pub record IsNode (r : NodeRow) (x : rows.NodeRow) : Type 0 where
+  pub name : r .name ≡ x .nameOffset
+  pub len : r .len ≡ x .nameLength
+  pub child : r .child ≡ x .firstChild
+  pub next : r .next ≡ x .nextSibling
+  pub first : r .first ≡ x .firstProperty
+  pub count : r .count ≡ x .propertyCount
+
+pub record IsProperty (r : PropRow) (x : rows.PropertyRow) : Type 0 where
+  pub name : r .name ≡ x .nameOffset
+  pub len : r .len ≡ x .nameLength
+  pub value : r .value ≡ x .valueOffset
+  pub size : r .size ≡ x .valueLength
+
+-- a row that is reached and judged, in a table that has room for the rows counted
+pub record Judged (t : List ℕ) (count row : ℕ) : Type 0 where
+  pub below : row < count
+  pub room : nodeWidth * count ≤ length t
+  pub good : linksGood (nodesIn count t) row ≡ true
+
+-- a part lies in one list and a range in another
+pub record Both (s : List ℕ) (start len : ℕ) (t : List ℕ) (from end : ℕ) : Type 0 where
+  pub one : start + len ≤ length s
+  pub order : from ≤ end
+  pub two : end ≤ length t
+
+-- the first name of a path from `at` on ends at r
+pub record NameEnd (p : List ℕ) (at r : ℕ) : Type 0 where
+  pub low : at ≤ r
+  pub high : at ≤ length p → r ≤ length p
+  pub first : head (drop at p) ≡ part p at (r - at)
+  pub later : rest (drop at p) ≡ drop (r + 1) p

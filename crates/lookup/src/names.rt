@@ -1,0 +1,79 @@
+// Names: whether two parts are the same bytes, and where the first name of a path ends.
+ghost use mathlib.Core.Path.{_≡_};
+ghost use Prim.Native.Nat.{_+_, _-_, _≤_};
+ghost use lib.ListN.{length};
+ghost use Rattle.format.specs.Bytes.{part};
+ghost use Rattle.format.specs.Find.{same};
+ghost use Rattle.lookup.specs.Places.{Both, NameEnd};
+
+// How many bytes are compared at once.
+const WORD: usize = 4;
+
+// Fewer bytes than a word.
+fn same_few(s: &[u8], a: usize, t: &[u8], b: usize, len: usize) -> bool
+    requires { ⌜ (a + len ≤ length (now s)) × (b + len ≤ length (now t)) ⌝ }
+    ensures { λ r. ⌜ r ≡ same (part (now (s .entry)) a len) (part (now (t .entry)) b len) ⌝ }
+{
+    let mut i = len;
+    while 0 < i {
+        i -= 1;
+        if s[a + i] != t[b + i] {
+            return false;
+        }
+    }
+    true
+}
+
+// Where the word before the one at i begins, at the front no further than 0.
+fn word_before(i: usize) -> usize
+    ensures { λ r. ⌜ r ≡ i - 4 ⌝ }
+{
+    if i < WORD {
+        return 0;
+    }
+    i - WORD
+}
+
+// Whether the len bytes of s from a on are the len bytes of t from b on. It goes from the end, where names differ most.
+fn same_bytes(s: &[u8], a: usize, t: &[u8], b: usize, len: usize) -> bool
+    requires { ⌜ (a + len ≤ length (now s)) × (b + len ≤ length (now t)) ⌝ }
+    ensures { λ r. ⌜ r ≡ same (part (now (s .entry)) a len) (part (now (t .entry)) b len) ⌝ }
+{
+    if len < WORD {
+        return same_few(s, a, t, b, len);
+    }
+    let mut i = len - WORD;
+    while 0 < i {
+        if reader::word_at(s, a + i) != reader::word_at(t, b + i) {
+            return false;
+        }
+        i = word_before(i);
+    }
+    reader::word_at(s, a) == reader::word_at(t, b)
+}
+
+// Whether that part of s is the text of t from `from` up to `end`.
+pub(crate) fn same_part(s: &[u8], start: u32, len: u32, t: &[u8], from: usize, end: usize) -> bool
+    requires { ⌜ Both (now s) start len (now t) from end ⌝ }
+    ensures { λ r. ⌜ r ≡ same (part (now (s .entry)) start len) (part (now (t .entry)) from (end - from)) ⌝ }
+{
+    let n = len as usize;
+    if n != end - from {
+        return false;
+    }
+    same_bytes(s, start as usize, t, from, n)
+}
+
+// The end of the first name of the path from at on: the first slash there, or the path's end.
+pub(crate) fn name_end(path: &[u8], at: usize) -> usize
+    ensures { λ r. ⌜ NameEnd (now (path .entry)) at r ⌝ }
+{
+    let mut i = at;
+    while i < path.len() {
+        if path[i] == b'/' {
+            return i;
+        }
+        i += 1;
+    }
+    i
+}

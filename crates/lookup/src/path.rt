@@ -1,0 +1,89 @@
+// Looking up a path: `DeviceTree::find` and `Node::find`.
+ghost use mathlib.Core.Path.{_≡_};
+ghost use lib.ListN.{drop};
+ghost use Rattle.format.specs.Answer.{numbers, itself};
+ghost use Rattle.format.specs.Rows.{nodesIn};
+ghost use Rattle.format.specs.Lookup.{down, find-from};
+ghost use Rattle.format.specs.Lookup as lookup;
+ghost use Rattle.lookup.specs.Answers.{foundNumbers, foundOutcome};
+ghost use Rattle.lookup.specs.Places.{Judged};
+use crate::Found;
+use crate::judge::links_are_good;
+use crate::judge::node_at;
+use crate::judge::row_is_good;
+use crate::names::name_end;
+use crate::names::same_part;
+use loader::NODE_WIDTH;
+use loader::NONE;
+
+// The path's part from skip on, from a row that has been judged. The outer loop goes down the path, the inner one over the children.
+fn walk(s: &[u8], nodes: &[u32], count: usize, from: usize, path: &[u8], skip: usize) -> Found
+    requires { ⌜ Judged (now nodes) count from ⌝ }
+    ensures { λ r. ⌜ foundOutcome r ≡ down (now (s .entry)) (nodesIn count (now (nodes .entry))) from (drop skip (now (path .entry))) ⌝ }
+{
+    let mut row = from;
+    let mut at = skip;
+    while at < path.len() {
+        let end = name_end(path, at);
+        let own = node_at(nodes, row);
+        let mut link = own.child;
+        let child = 'children: loop {
+            if link == NONE {
+                return Found::Nothing;
+            }
+            let next = link as usize;
+            let node = node_at(nodes, next);
+            if !row_is_good(node, next, count, s.len()) {
+                return Found::Unusable;
+            }
+            if same_part(s, node.name, node.len, path, at, end) {
+                break 'children next;
+            }
+            link = node.next;
+        };
+        row = child;
+        if path.len() <= end {
+            return Found::Row(row);
+        }
+        at = end + 1;
+    }
+    Found::Row(row)
+}
+
+// The path from a node.
+pub fn find_from(b: &[u8], nodes: &[u32], count: usize, row: usize, path: &[u8]) -> Found
+    ensures { λ r. ⌜ foundNumbers r ≡ numbers itself (find-from (now (b .entry)) (now (nodes .entry)) count row (now (path .entry))) ⌝ }
+{
+    if nodes.len() / NODE_WIDTH < count {
+        return Found::Unusable;
+    }
+    if count <= row {
+        return Found::Unusable;
+    }
+    if !links_are_good(node_at(nodes, row), row, count) {
+        return Found::Unusable;
+    }
+    walk(b, nodes, count, row, path, 0)
+}
+
+// The path in a tree: from row 0, after its leading slash.
+pub fn find(b: &[u8], nodes: &[u32], count: usize, path: &[u8]) -> Found
+    ensures { λ r. ⌜ foundNumbers r ≡ numbers itself (lookup.find (now (b .entry)) (now (nodes .entry)) count (now (path .entry))) ⌝ }
+{
+    if nodes.len() / NODE_WIDTH < count {
+        return Found::Unusable;
+    }
+    if count == 0 {
+        return Found::Unusable;
+    }
+    if path.len() == 0 {
+        return Found::Nothing;
+    }
+    if path[0] != b'/' {
+        return Found::Nothing;
+    }
+    if !links_are_good(node_at(nodes, 0), 0, count) {
+        return Found::Unusable;
+    }
+    walk(b, nodes, count, 0, path, 1)
+}
