@@ -5,7 +5,7 @@ use mathlib.Core.List.{List}
 use lib.Seq.{sets}
 use Rattle.format.specs.Load.{Tables}
 use Rattle.format.proofs.Load.{loads-determined, measures-determined}
-use Rattle.capi.specs.Linked.{Linked, Measured}
+use Rattle.capi.specs.Linked.{Linked, Measured, Told}
 
 pub load-determined : {lent left left′ : Tables} {b answer answer′ answer″ : List ℕ} → Linked lent b answer left answer′ → Linked lent b answer left′ answer″
     → (left ≡ left′) × (answer′ ≡ answer″)
@@ -15,3 +15,8 @@ load-determined {answer = answer} l m =
 
 pub measure-determined : {b answer answer′ answer″ : List ℕ} → Measured b answer answer′ → Measured b answer answer″ → answer′ ≡ answer″
 measure-determined {answer = answer} l m = l .put ∙ ap (sets answer 0) (measures-determined (l .measures) (m .measures)) ∙ sym (m .put)
+
+-- any lookup, whose numbers are fixed by what it was given
+pub lookup-determined : (numbers answer : List ℕ) (answer′ answer″ : List ℕ) → Told numbers answer answer′ → Told numbers answer answer″ → answer′ ≡ answer″
+unfolding Told
+lookup-determined numbers answer answer′ answer″ l m = l ∙ sym m

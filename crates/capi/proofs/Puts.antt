@@ -1,16 +1,20 @@
--- The numbers of an answer, where the code has found out which answer it is. Assumes nothing.
+-- Numbers put one after the other, and the numbers of an answer where the code has found out which answer it is. Assumes nothing.
 use mathlib.Core.Path.{_≡_, sym, ap, _∙_}
 use Prim.Native.Nat.{ℕ}
 use mathlib.Core.List.{List}
+use lib.ListN.{set}
 use lib.Seq.{sets}
-use Rattle.format.specs.Answer.{refusalNumbers}
-use Rattle.loader.specs.Check.{whyOf}
-use Rattle.loader.specs.Survey.{loadedNumbers}
-use Rattle.loader.specs.declared.DeviceTreeError.{DeviceTreeError}
-use Rattle.loader.specs.declared.Loaded.{Loaded}
+use Rattle.capi.specs.Linked.{Told}
 
-pub refusal-put : (t : List ℕ) {left : List ℕ} (w w′ : DeviceTreeError) → left ≡ sets t 0 (refusalNumbers (whyOf w)) → w′ ≡ w → left ≡ sets t 0 (refusalNumbers (whyOf w′))
-refusal-put t w w′ e same = e ∙ ap (λ x. sets t 0 (refusalNumbers (whyOf x))) (sym same)
+-- one number more, after those that were put
+pub next : (k n : ℕ) {t u v : List ℕ} → v ≡ set u k n → u ≡ t → v ≡ set t k n
+next k n e f = e ∙ ap (λ l. set l k n) f
 
-pub answer-put : (t : List ℕ) {left : List ℕ} (r r′ : Loaded) → left ≡ sets t 0 (loadedNumbers r) → r′ ≡ r → left ≡ sets t 0 (loadedNumbers r′)
-answer-put t r r′ e same = e ∙ ap (λ x. sets t 0 (loadedNumbers x)) (sym same)
+-- the answer that was found out to be r has r's numbers
+pub put-as : {A : Type 0} (numbers : A → List ℕ) (t : List ℕ) {left : List ℕ} (r r′ : A) → left ≡ sets t 0 (numbers r) → r′ ≡ r → left ≡ sets t 0 (numbers r′)
+put-as numbers t r r′ e same = e ∙ ap (λ x. sets t 0 (numbers x)) (sym same)
+
+-- a call's numbers were put, and they are those of what it looks up
+pub told : (t : List ℕ) {left : List ℕ} (ms : List ℕ) {ns : List ℕ} → left ≡ sets t 0 ms → ms ≡ ns → Told ns t left
+unfolding Told
+told t ms e same = e ∙ ap (sets t 0) same

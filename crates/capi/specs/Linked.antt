@@ -14,3 +14,7 @@ pub record Measured (b answer answer′ : List ℕ) : Type 0 where
   pub numbers : List ℕ
   pub measures : Measures b numbers
   pub put : answer′ ≡ sets answer 0 numbers
+
+-- what a lookup does: it writes these numbers and nothing else
+unfoldable pub Told : List ℕ → List ℕ → List ℕ → Type 0
+Told numbers answer answer′ = answer′ ≡ sets answer 0 numbers

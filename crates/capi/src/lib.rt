@@ -1,4 +1,4 @@
-// What C and Rust link: load and measure on plain slices. A call's answer goes to `answer` as document 01's numbers, from its start,
+// What C and Rust link: load, measure and the lookups on plain slices. A call's answer goes to `answer` as document 01's numbers, from its start,
 // as many as it has room for (6 are enough); what follows them stays as it was.
 ghost use mathlib.Core.List.{_∷_, []};
 ghost use mathlib.Core.Path.{_≡_};
@@ -8,12 +8,15 @@ ghost use Rattle.loader.specs.Check.{whyOf};
 ghost use Rattle.format.specs.Answer.{refusalNumbers};
 ghost use Rattle.loader.specs.Survey.{loadedNumbers, lent};
 ghost use Rattle.capi.specs.Linked.{Linked, Measured};
+
+mod lookups;
+
 use loader::DeviceTree;
 use loader::DeviceTreeError;
 use loader::Loaded;
 
 // A number at its place, where there is one.
-fn put(answer: &mut [u64], at: usize, n: u64)
+pub(crate) fn put(answer: &mut [u64], at: usize, n: u64)
     ensures { λ _. ⌜ now (answer .exit) ≡ set (now (answer .entry)) at n ⌝ }
 {
     if at < answer.len() {
@@ -21,15 +24,15 @@ fn put(answer: &mut [u64], at: usize, n: u64)
     }
 }
 
-// A refusal that carries nothing.
-fn put_code(answer: &mut [u64], code: u64)
+// An answer that carries nothing.
+pub(crate) fn put_code(answer: &mut [u64], code: u64)
     ensures { λ _. ⌜ now (answer .exit) ≡ sets (now (answer .entry)) 0 (code ∷ []) ⌝ }
 {
     put(answer, 0, code);
 }
 
-// A refusal with its position or the rows needed.
-fn put_place(answer: &mut [u64], code: u64, at: usize)
+// An answer that carries one number: a refusal its position or the rows needed, a lookup its row.
+pub(crate) fn put_place(answer: &mut [u64], code: u64, at: usize)
     ensures { λ _. ⌜ now (answer .exit) ≡ sets (now (answer .entry)) 0 (code ∷ at ∷ []) ⌝ }
 {
     put(answer, 0, code);

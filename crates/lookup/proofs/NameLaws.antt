@@ -12,14 +12,11 @@ use lib.ListN.{length, take, drop, getD, length-drop, drop-of-length-le}
 use lib.Seq.{take-suc, drop-cons, getD-drop, getD-take, ext-getD}
 use borrow.Author.Tests.{eqb-true, eqb-false, eq-eqb, ne-eqb}
 use Rattle.format.specs.Choice.{if_then_else_}
-use Rattle.format.specs.Answer.{orZero}
-use Rattle.format.specs.Bytes.{part, wordAt, AreBytes}
-use Rattle.format.specs.Read.{read-be-u32}
+use Rattle.format.specs.Bytes.{part, AreBytes}
 use Rattle.format.specs.Find.{SLASH, head, rest, same}
 use Rattle.format.proofs.Tools.{split, both, tested, never-both, if-yes, if-no}
 use Rattle.format.proofs.Bytes.{part-length}
-use Rattle.reader.proofs.Numbers.{word-bytes, word-total}
-use Rattle.lookup.specs.Places.{NameEnd}
+use Rattle.lookup.specs.Places.{NameEnd, lowest}
 
 -- ---- the same bytes
 
@@ -77,45 +74,38 @@ alike-more s a t b n i pos all e k h l = split i k (λ g. all k g l) (λ g.
 
 -- ---- a word at a time
 
--- words that are the same have the same bytes
-four-alike : (s t : List ℕ) (p q : ℕ) → AreBytes s → AreBytes t → p + 4 ≤ length s → q + 4 ≤ length t → wordAt s p ≡ wordAt t q
-    → (j : ℕ) → j < 4 → getD s (p + j) 0 ≡ getD t (q + j) 0
-unfolding AreBytes
-four-alike s t p q bs bt fs ft e j h =
-    let x = word-bytes s p fs in
-    let y = word-bytes t q ft in
-    let each : (getD s p 0 ≡ getD t q 0) × (getD s (p + 1) 0 ≡ getD t (q + 1) 0) × (getD s (p + 2) 0 ≡ getD t (q + 2) 0) × (getD s (p + 3) 0 ≡ getD t (q + 3) 0) = (
-      omega (arith, bs p, bs (p + 1), bs (p + 2), bs (p + 3), bt q, bt (q + 1), bt (q + 2), bt (q + 3)),
-      omega (arith, bs p, bs (p + 1), bs (p + 2), bs (p + 3), bt q, bt (q + 1), bt (q + 2), bt (q + 3)),
-      omega (arith, bs p, bs (p + 1), bs (p + 2), bs (p + 3), bt q, bt (q + 1), bt (q + 2), bt (q + 3)),
-      omega (arith, bs p, bs (p + 1), bs (p + 2), bs (p + 3), bt q, bt (q + 1), bt (q + 2), bt (q + 3)),
-    ) in
-    by-place j h each
-  where
-    by-place : (j : ℕ) → j < 4
-        → (getD s p 0 ≡ getD t q 0) × (getD s (p + 1) 0 ≡ getD t (q + 1) 0) × (getD s (p + 2) 0 ≡ getD t (q + 2) 0) × (getD s (p + 3) 0 ≡ getD t (q + 3) 0)
-        → getD s (p + j) 0 ≡ getD t (q + j) 0
-    by-place zero h each = rw (add-zero p, add-zero q) (each .0)
-    by-place (suc zero) h each = each .1
-    by-place (suc (suc zero)) h each = each .2
-    by-place (suc (suc (suc zero))) h each = each .3
-    by-place (suc (suc (suc (suc j)))) h each = absurd (omega arith)
+-- words that are the same have the same bytes, and the other way round
+pub record Fours (s t : List ℕ) (p q : ℕ) : Type 0 where
+  first : getD s p 0 ≡ getD t q 0
+  second : getD s (p + 1) 0 ≡ getD t (q + 1) 0
+  third : getD s (p + 2) 0 ≡ getD t (q + 2) 0
+  fourth : getD s (p + 3) 0 ≡ getD t (q + 3) 0
 
-module _ (s : List ℕ) (a : ℕ) (t : List ℕ) (b n : ℕ) (bs : AreBytes s) (bt : AreBytes t) (fs : a + n ≤ length s) (ft : b + n ≤ length t) (i : ℕ) (h : i + 4 ≤ n) where
-  abbrev ours : ℕ
-  ours = orZero (read-be-u32 s (a + i))
+fours : (s t : List ℕ) (p q : ℕ) → AreBytes s → AreBytes t → lowest s p ≡ lowest t q → Fours s t p q
+unfolding AreBytes lowest
+fours s t p q bs bt e = record {
+  first = omega (arith, bs p, bs (p + 1), bs (p + 2), bs (p + 3), bt q, bt (q + 1), bt (q + 2), bt (q + 3));
+  second = omega (arith, bs p, bs (p + 1), bs (p + 2), bs (p + 3), bt q, bt (q + 1), bt (q + 2), bt (q + 3));
+  third = omega (arith, bs p, bs (p + 1), bs (p + 2), bs (p + 3), bt q, bt (q + 1), bt (q + 2), bt (q + 3));
+  fourth = omega (arith, bs p, bs (p + 1), bs (p + 2), bs (p + 3), bt q, bt (q + 1), bt (q + 2), bt (q + 3));
+}
 
-  abbrev theirs : ℕ
-  theirs = orZero (read-be-u32 t (b + i))
+four-alike : (s t : List ℕ) (p q : ℕ) → Fours s t p q → (j : ℕ) → j < 4 → getD s (p + j) 0 ≡ getD t (q + j) 0
+four-alike s t p q each zero h = rw (add-zero p, add-zero q) (each .first)
+four-alike s t p q each (suc zero) h = each .second
+four-alike s t p q each (suc (suc zero)) h = each .third
+four-alike s t p q each (suc (suc (suc zero))) h = each .fourth
+four-alike s t p q each (suc (suc (suc (suc j)))) h = absurd (omega arith)
 
-  pub word-alike : ours ≡ theirs → Alike s a t b n (i + 4) → Alike s a t b n i
+module _ (s : List ℕ) (a : ℕ) (t : List ℕ) (b n : ℕ) (bs : AreBytes s) (bt : AreBytes t) (i : ℕ) (h : i + 4 ≤ n) where
+  pub word-alike : lowest s (a + i) ≡ lowest t (b + i) → Alike s a t b n (i + 4) → Alike s a t b n i
   word-alike e all k lo l = split (i + 4) k (λ g. all k g l) (λ g.
       let x : a + i + (k - i) ≡ a + k = omega arith in
       let y : b + i + (k - i) ≡ b + k = omega arith in
-      let words : wordAt s (a + i) ≡ wordAt t (b + i) = sym (word-total s (a + i) (omega arith)) ∙ e ∙ word-total t (b + i) (omega arith) in
-      rw (x, y) at (four-alike s t (a + i) (b + i) bs bt (omega arith) (omega arith) words (k - i) (omega arith)))
+      rw (x, y) at (four-alike s t (a + i) (b + i) (fours s t (a + i) (b + i) bs bt e) (k - i) (omega arith)))
 
-  pub word-differs : ours ≢ theirs → false ≡ same (part s a n) (part t b n)
+  pub word-differs : lowest s (a + i) ≢ lowest t (b + i) → false ≡ same (part s a n) (part t b n)
+  unfolding lowest
   word-differs d = sym (unequal (part s a n) (part t b n) (λ e.
       let all = parts-alike s a t b n e in
       let x : a + i + 1 ≡ a + (i + 1) = omega arith in
@@ -124,24 +114,18 @@ module _ (s : List ℕ) (a : ℕ) (t : List ℕ) (b n : ℕ) (bs : AreBytes s) (
       let y : b + i + 1 ≡ b + (i + 1) = omega arith in
       let y₂ : b + i + 2 ≡ b + (i + 2) = omega arith in
       let y₃ : b + i + 3 ≡ b + (i + 3) = omega arith in
-      let words : wordAt s (a + i) ≡ wordAt t (b + i) = omega (
-        arith,
-        word-bytes s (a + i) (omega arith),
-        word-bytes t (b + i) (omega arith),
+      d (rw (
+        x,
+        x₂,
+        x₃,
+        y,
+        y₂,
+        y₃,
         all i (omega arith) (omega arith),
-        rw (← x, ← y) at (all (i + 1) (omega arith) (omega arith)),
-        rw (← x₂, ← y₂) at (all (i + 2) (omega arith) (omega arith)),
-        rw (← x₃, ← y₃) at (all (i + 3) (omega arith) (omega arith)),
-      ) in
-      d (word-total s (a + i) (omega arith) ∙ words ∙ sym (word-total t (b + i) (omega arith)))))
-
--- the word that is compared last
-pub last-word : (s : List ℕ) (a : ℕ) (t : List ℕ) (b n : ℕ) → AreBytes s → AreBytes t → a + n ≤ length s → b + n ≤ length t → 4 ≤ n → Alike s a t b n 4
-    → eqb (orZero (read-be-u32 s a)) (orZero (read-be-u32 t b)) ≡ same (part s a n) (part t b n)
-last-word s a t b n bs bt fs ft h all =
-    tested (eqb (orZero (read-be-u32 s a)) (orZero (read-be-u32 t b)))
-    (λ e. e ∙ alike-same s a t b n fs ft (word-alike s a t b n bs bt fs ft 0 h (rw (add-zero a, add-zero b) (eqb-true _ _ e)) all))
-    (λ e. e ∙ word-differs s a t b n bs bt fs ft 0 h (rw (add-zero a, add-zero b) (eqb-false _ _ e)))
+        all (i + 1) (omega arith) (omega arith),
+        all (i + 2) (omega arith) (omega arith),
+        all (i + 3) (omega arith) (omega arith),
+      ))))
 
 -- ---- the first name of a path
 

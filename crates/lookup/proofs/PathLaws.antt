@@ -6,8 +6,8 @@ use native.Mathlib.Omega.{arith}
 use mathlib.Core.List.{List, [], _∷_}
 use mathlib.Core.Bool.{Bool, true, false, _&&_}
 use lib.Dec.{eqb, leb, ltb}
-use lib.ListN.{length, drop, getD, drop-of-length-le}
-use lib.Seq.{drop-cons}
+use lib.ListN.{length, take, drop, getD, length-drop, drop-of-length-le}
+use lib.Seq.{drop-cons, take-length}
 use borrow.Author.Tests.{ne-eqb, eq-eqb, leb-true, le-leb, lt-leb, lt-ltb, le-ltb}
 use Rattle.format.specs.Choice.{if_then_else_}
 use Rattle.format.specs.Answer.{Outcome, ok, refused, nothingFound, notUsable}
@@ -212,11 +212,9 @@ module _ (b t : List ℕ) (n : ℕ) (path : List ℕ) where
       unfolding find
       tree-other d = sym (then-ok _ _ (check-ok _ u) (then-refused _ _ (slash-other path l d)))
 
-      module _ (d : getD path 0 0 ≡ 0x2f) where
-        pub tree-bad : linksGood (nodesIn n t) 0 ≡ false → refused notUsable ≡ find b t n path
-        unfolding find
-        tree-bad g = sym (then-ok _ _ (check-ok _ u) (then-ok _ _ (slash-first path l d) (reach-bad b t n 0 (drop 1 path) g)))
-
-        pub tree-good : linksGood (nodesIn n t) 0 ≡ true → down b (nodesIn n t) 0 (drop 1 path) ≡ find b t n path
-        unfolding find
-        tree-good g = sym (then-ok _ _ (check-ok _ u) (then-ok _ _ (slash-first path l d) (reach-good b t n 0 (drop 1 path) g)))
+      -- after the slash, a path from row 0
+      pub tree-from : getD path 0 0 ≡ 0x2f → find-from b t n 0 (take (length path - 1) (drop 1 path)) ≡ find b t n path
+      unfolding find find-from
+      tree-from d =
+          let whole : take (length path - 1) (drop 1 path) ≡ drop 1 path = rw (← length-drop 1 path) (take-length (drop 1 path)) in
+          then-ok _ _ (check-ok _ u) (rw whole) ∙ sym (then-ok _ _ (check-ok _ u) (then-ok _ _ (slash-first path l d) refl))

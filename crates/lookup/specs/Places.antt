@@ -54,6 +54,10 @@ pub record Judged (t : List ℕ) (count row : ℕ) : Type 0 where
   pub room : nodeWidth * count ≤ length t
   pub good : linksGood (nodesIn count t) row ≡ true
 
+-- the four bytes of s at p as a number, the first of them the lowest
+unfoldable pub lowest : List ℕ → ℕ → ℕ
+lowest s p = ((getD s (p + 3) 0 * 256 + getD s (p + 2) 0) * 256 + getD s (p + 1) 0) * 256 + getD s p 0
+
 -- a part lies in one list and a range in another
 pub record Both (s : List ℕ) (start len : ℕ) (t : List ℕ) (from end : ℕ) : Type 0 where
   pub one : start + len ≤ length s

@@ -1,13 +1,38 @@
 // Names: whether two parts are the same bytes, and where the first name of a path ends.
 ghost use mathlib.Core.Path.{_≡_};
-ghost use Prim.Native.Nat.{_+_, _-_, _≤_};
+ghost use Prim.Native.Nat.{_+_, _-_, _≤_, _<_};
 ghost use lib.ListN.{length};
 ghost use Rattle.format.specs.Bytes.{part};
 ghost use Rattle.format.specs.Find.{same};
-ghost use Rattle.lookup.specs.Places.{Both, NameEnd};
+ghost use Rattle.lookup.specs.Places.{Both, NameEnd, lowest};
 
 // How many bytes are compared at once.
 const WORD: usize = 4;
+
+// A byte in 32 bits.
+fn wide(x: u8) -> u32
+    ensures { λ r. ⌜ (r ≡ x) × (r < 256) ⌝ }
+{
+    x as u32
+}
+
+// The word of s at p, its first byte the lowest: most machines read it so at once.
+fn word_of(s: &[u8], p: usize) -> u32
+    requires { ⌜ p + 4 ≤ length (now s) ⌝ }
+    ensures { λ r. ⌜ r ≡ lowest (now (s .entry)) p ⌝ }
+{
+    ((wide(s[p + 3]) * 256 + wide(s[p + 2])) * 256 + wide(s[p + 1])) * 256 + wide(s[p])
+}
+
+// Where the word before the one at i begins, at the front no further than 0.
+fn word_before(i: usize) -> usize
+    ensures { λ r. ⌜ r ≡ i - 4 ⌝ }
+{
+    if i < WORD {
+        return 0;
+    }
+    i - WORD
+}
 
 // Fewer bytes than a word.
 fn same_few(s: &[u8], a: usize, t: &[u8], b: usize, len: usize) -> bool
@@ -24,16 +49,6 @@ fn same_few(s: &[u8], a: usize, t: &[u8], b: usize, len: usize) -> bool
     true
 }
 
-// Where the word before the one at i begins, at the front no further than 0.
-fn word_before(i: usize) -> usize
-    ensures { λ r. ⌜ r ≡ i - 4 ⌝ }
-{
-    if i < WORD {
-        return 0;
-    }
-    i - WORD
-}
-
 // Whether the len bytes of s from a on are the len bytes of t from b on. It goes from the end, where names differ most.
 fn same_bytes(s: &[u8], a: usize, t: &[u8], b: usize, len: usize) -> bool
     requires { ⌜ (a + len ≤ length (now s)) × (b + len ≤ length (now t)) ⌝ }
@@ -43,13 +58,15 @@ fn same_bytes(s: &[u8], a: usize, t: &[u8], b: usize, len: usize) -> bool
         return same_few(s, a, t, b, len);
     }
     let mut i = len - WORD;
-    while 0 < i {
-        if reader::word_at(s, a + i) != reader::word_at(t, b + i) {
+    loop {
+        if word_of(s, a + i) != word_of(t, b + i) {
             return false;
+        }
+        if i == 0 {
+            return true;
         }
         i = word_before(i);
     }
-    reader::word_at(s, a) == reader::word_at(t, b)
 }
 
 // Whether that part of s is the text of t from `from` up to `end`.

@@ -1,6 +1,5 @@
 // Looking up a path: `DeviceTree::find` and `Node::find`.
 ghost use mathlib.Core.Path.{_≡_};
-ghost use lib.ListN.{drop};
 ghost use Rattle.format.specs.Answer.{numbers, itself};
 ghost use Rattle.format.specs.Rows.{nodesIn};
 ghost use Rattle.format.specs.Lookup.{down, find-from};
@@ -16,13 +15,13 @@ use crate::names::same_part;
 use loader::NODE_WIDTH;
 use loader::NONE;
 
-// The path's part from skip on, from a row that has been judged. The outer loop goes down the path, the inner one over the children.
-fn walk(s: &[u8], nodes: &[u32], count: usize, from: usize, path: &[u8], skip: usize) -> Found
+// The path from a row that has been judged. The outer loop goes down the path, the inner one over the children.
+fn walk(s: &[u8], nodes: &[u32], count: usize, from: usize, path: &[u8]) -> Found
     requires { ⌜ Judged (now nodes) count from ⌝ }
-    ensures { λ r. ⌜ foundOutcome r ≡ down (now (s .entry)) (nodesIn count (now (nodes .entry))) from (drop skip (now (path .entry))) ⌝ }
+    ensures { λ r. ⌜ foundOutcome r ≡ down (now (s .entry)) (nodesIn count (now (nodes .entry))) from (now (path .entry)) ⌝ }
 {
     let mut row = from;
-    let mut at = skip;
+    let mut at = 0;
     while at < path.len() {
         let end = name_end(path, at);
         let own = node_at(nodes, row);
@@ -63,7 +62,7 @@ pub fn find_from(b: &[u8], nodes: &[u32], count: usize, row: usize, path: &[u8])
     if !links_are_good(node_at(nodes, row), row, count) {
         return Found::Unusable;
     }
-    walk(b, nodes, count, row, path, 0)
+    walk(b, nodes, count, row, path)
 }
 
 // The path in a tree: from row 0, after its leading slash.
@@ -82,8 +81,5 @@ pub fn find(b: &[u8], nodes: &[u32], count: usize, path: &[u8]) -> Found
     if path[0] != b'/' {
         return Found::Nothing;
     }
-    if !links_are_good(node_at(nodes, 0), 0, count) {
-        return Found::Unusable;
-    }
-    walk(b, nodes, count, 0, path, 1)
+    find_from(b, nodes, count, 0, &path[1..])
 }

@@ -4,9 +4,8 @@ use borrow.Author.Needs.{needs}
 use native.Mathlib.Omega.{arith}
 use mathlib.Core.Path.{_≡_, sym, _∙_}
 use Prim.Native.Nat.{_+_, _-_, _≤_}
-use lib.ListN.{length}
 use Rattle.format.specs.Bytes.{AreBytes}
-use Rattle.lookup.proofs.NameLaws.{Alike, word-alike, word-differs, last-word}
+use Rattle.lookup.proofs.NameLaws.{Alike, alike-same, word-alike, word-differs}
 use Rattle.lookup.proofs.names.same_bytes.Statement.{statement}
 use Rattle.lookup.proofs.names.same_bytes.Tie as tie
 
@@ -22,41 +21,38 @@ loop-holds c = (omega (arith, c .if1 .left), λ k h l. absurd (omega (arith, c .
 returns-2 : tie.Need-returns-2 Inv-loop μ-loop
 unfolding AreBytes
 returns-2 c =
-    let lo = c .before .before .before .before in
+    let lo = c .before .before .before in
     let known = lo .before .before in
-    let st = known .before .before in
-    let a = st .args in
+    let a = known .before .before .args in
     word-differs (now (a .s)) (a .a) (now (a .t)) (a .b) (a .len)
-    (λ i. known .before .shared-slice-known .given i .fits) (λ i. known .shared-slice-known2 .given i .fits)
-    (st .pre .0) (st .pre .1) (lo .loop .i) (lo .loop .inv .0)
-    (λ e. c .if2 .taken (c .before .before .word-at .ensures ∙ e ∙ sym (c .before .word-at2 .ensures)))
-
-loop-again : tie.Need-loop-again Inv-loop μ-loop
-unfolding AreBytes
-loop-again c =
-    let el = c .before in
-    let lo = el .before .before .before .before in
-    let known = lo .before .before in
-    let st = known .before .before in
-    let a = st .args in
-    let same = sym (el .before .before .word-at .ensures) ∙ el .if2 .left ∙ el .before .word-at2 .ensures in
-    let all = word-alike (now (a .s)) (a .a) (now (a .t)) (a .b) (a .len)
-    (λ i. known .before .shared-slice-known .given i .fits) (λ i. known .shared-slice-known2 .given i .fits)
-    (st .pre .0) (st .pre .1) (lo .loop .i) (lo .loop .inv .0) same (lo .loop .inv .1) in
-    (omega (arith, lo .loop .inv .0, c .word-before .ensures, el .before .before .before .loop-test .taken), λ k h l. all k (omega (arith, c .word-before .ensures)) l)
+    (λ i. known .before .shared-slice-known .given i .fits) (λ i. known .shared-slice-known2 .given i .fits) (lo .loop .i) (lo .loop .inv .0)
+    (λ e. c .if2 .taken (c .before .before .word-of .ensures ∙ e ∙ sym (c .before .word-of2 .ensures)))
 
 returns-3 : tie.Need-returns-3 Inv-loop μ-loop
 unfolding AreBytes
 returns-3 c =
-    let out = c .before .before in
-    let lo = out .before in
+    let el = c .before in
+    let lo = el .before .before .before in
     let known = lo .before .before in
     let st = known .before .before in
     let a = st .args in
-    rw (c .before .word-at3 .ensures, c .word-at4 .ensures)
-    (last-word (now (a .s)) (a .a) (now (a .t)) (a .b) (a .len)
-    (λ i. known .before .shared-slice-known .given i .fits) (λ i. known .shared-slice-known2 .given i .fits)
-    (st .pre .0) (st .pre .1) (omega (arith, lo .loop .inv .0)) (λ k h l. lo .loop .inv .1 k (omega (arith, out .loop-test .left)) l))
+    let same = sym (el .before .before .word-of .ensures) ∙ el .if2 .left ∙ el .before .word-of2 .ensures in
+    let all = word-alike (now (a .s)) (a .a) (now (a .t)) (a .b) (a .len)
+    (λ i. known .before .shared-slice-known .given i .fits) (λ i. known .shared-slice-known2 .given i .fits) (lo .loop .i) (lo .loop .inv .0) same (lo .loop .inv .1) in
+    alike-same (now (a .s)) (a .a) (now (a .t)) (a .b) (a .len) (st .pre .0) (st .pre .1) (λ k h l. all k (omega (arith, c .if3 .taken)) l)
+
+loop-again : tie.Need-loop-again Inv-loop μ-loop
+unfolding AreBytes
+loop-again c =
+    let some = c .before in
+    let el = some .before in
+    let lo = el .before .before .before in
+    let known = lo .before .before in
+    let a = known .before .before .args in
+    let same = sym (el .before .before .word-of .ensures) ∙ el .if2 .left ∙ el .before .word-of2 .ensures in
+    let all = word-alike (now (a .s)) (a .a) (now (a .t)) (a .b) (a .len)
+    (λ i. known .before .shared-slice-known .given i .fits) (λ i. known .shared-slice-known2 .given i .fits) (lo .loop .i) (lo .loop .inv .0) same (lo .loop .inv .1) in
+    (omega (arith, lo .loop .inv .0, c .word-before .ensures, some .if3 .left), λ k h l. all k (omega (arith, c .word-before .ensures)) l)
 
 pub same-bytes-spec : {M : Type 1} → statement M
 same-bytes-spec =
@@ -72,9 +68,7 @@ same-bytes-spec =
     (λ c. search needs)
     (λ c κs. search needs)
     returns-2
+    returns-3
     (λ c κs. search needs)
-    (λ c. omega (arith, c .word-before .ensures, c .before .before .before .before .loop-test .taken))
-    loop-again
-    (λ c κs. search needs)
-    (λ c κs. search needs)
-    returns-3)
+    (λ c. omega (arith, c .word-before .ensures, c .before .if3 .left))
+    loop-again)

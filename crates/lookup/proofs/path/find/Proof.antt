@@ -1,16 +1,13 @@
--- `find` meets its contract, by its six returns. Assumes nothing.
+-- `find` meets its contract, by its five returns. Assumes nothing.
 use native.Mathlib.Omega.{arith}
-use mathlib.Core.Path.{_≡_, sym, _∙_}
-use borrow.Author.Tests.{not-true, not-false}
+use mathlib.Core.Path.{ap, _∙_}
 use borrow.Author.Needs.{needs}
-use Prim.Native.Nat.{_<_}
 use denote.Ref.{now}
-use Rattle.format.specs.Format.{nodeWidth}
+use Rattle.format.specs.Answer.{numbers, itself}
 use Rattle.lookup.specs.Answers.{foundOutcome}
 use Rattle.lookup.specs.declared.Found.the-variants.{Nothing, Unusable}
 use Rattle.lookup.proofs.Outcomes.{found-promise}
-use Rattle.lookup.proofs.RowLaws.{nodes-length, node-read}
-use Rattle.lookup.proofs.PathLaws.{too-many, not-below, can-be-used, tree-unusable, tree-empty, tree-other, tree-bad, tree-good}
+use Rattle.lookup.proofs.PathLaws.{too-many, not-below, can-be-used, tree-unusable, tree-empty, tree-other, tree-from}
 use Rattle.lookup.proofs.path.find.Statement.{statement}
 use Rattle.lookup.proofs.path.find.Tie as tie
 
@@ -46,56 +43,14 @@ returns-4 c =
     (tree-other (now (a .b)) (now (a .nodes)) (a .count) (now (a .path)) (can-be-used _ _ 0 (fits .if1 .left) (omega (arith, some .if2 .left))) (omega (arith, long .if3 .left)) (c .if4 .taken))
 
 returns-5 : tie.Need-returns-5
-unfolding foundOutcome
 returns-5 c =
-    let read = c .before .before in
-    let slash = read .before in
+    let slash = c .before .before in
     let long = slash .before .before in
     let some = long .before in
     let fits = some .before in
     let a = fits .before .before .before .before .args in
-    let first : 0 < a .count = omega (arith, some .if2 .left) in
-    let is = node-read _ _ _ _ first (read .node-at .ensures) in
-    found-promise Unusable
-    (tree-bad (now (a .b)) (now (a .nodes)) (a .count) (now (a .path)) (can-be-used _ _ 0 (fits .if1 .left) first) (omega (arith, long .if3 .left)) (slash .if4 .left)
-    (sym (c .before .links-are-good .ensures _ (nodes-length _ _) is) ∙ not-true _ (c .if5 .taken)))
-
-walk-requires : tie.Need-walk-requires
-unfolding nodeWidth
-walk-requires c κs =
-    let read = c .before .before in
-    let some = read .before .before .before .before in
-    let fits = some .before in
-    let a = fits .before .before .before .before .args in
-    let first : 0 < a .count = omega (arith, some .if2 .left) in
-    let is = node-read _ _ _ _ first (read .node-at .ensures) in
-    record {
-      below = first;
-      room = omega (arith, fits .if1 .left);
-      good = sym (c .before .links-are-good .ensures _ (nodes-length _ _) is) ∙ not-false _ (c .if5 .left);
-    }
-
-returns-6 : tie.Need-returns-6
-returns-6 c =
-    let good = c .before in
-    let read = good .before .before in
-    let slash = read .before in
-    let long = slash .before .before in
-    let some = long .before in
-    let fits = some .before in
-    let a = fits .before .before .before .before .args in
-    let first : 0 < a .count = omega (arith, some .if2 .left) in
-    let is = node-read _ _ _ _ first (read .node-at .ensures) in
-    found-promise _
-    (c .walk .ensures
-    ∙ tree-good (now (a .b)) (now (a .nodes)) (a .count) (now (a .path)) (can-be-used _ _ 0 (fits .if1 .left) first) (omega (arith, long .if3 .left)) (slash .if4 .left)
-    (sym (good .before .links-are-good .ensures _ (nodes-length _ _) is) ∙ not-false _ (good .if5 .left)))
-
-node-at-requires : tie.Need-node-at-requires
-unfolding nodeWidth
-node-at-requires c κs =
-    let some = c .before .before .before in
-    omega (arith, some .if2 .left, some .before .if1 .left)
+    c .find-from .ensures
+    ∙ ap (numbers itself) (tree-from (now (a .b)) (now (a .nodes)) (a .count) (now (a .path)) (can-be-used _ _ 0 (fits .if1 .left) (omega (arith, some .if2 .left))) (omega (arith, long .if3 .left)) (slash .if4 .left))
 
 pub find-spec : {M : Type 1} → statement M
 find-spec =
@@ -106,8 +61,8 @@ find-spec =
     returns-3
     (λ c. search needs)
     returns-4
-    node-at-requires
+    (λ c. search needs)
+    (λ c. search needs)
+    (λ c. search needs)
     (λ c κs. search needs)
-    returns-5
-    walk-requires
-    returns-6)
+    returns-5)

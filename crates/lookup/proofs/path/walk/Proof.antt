@@ -6,7 +6,7 @@ use native.Mathlib.Omega.{arith}
 use mathlib.Core.Path.{_≡_, _∙_, sym, ap, refl}
 use mathlib.Core.Bool.{_&&_, true}
 use Prim.Native.Nat.{_+_, _-_, _*_, _≤_, _<_}
-use lib.ListN.{length, drop}
+use lib.ListN.{length}
 use denote.Ref.{now}
 use Rattle.format.specs.Format.{NONE, nodeWidth}
 use Rattle.format.specs.Rows.{nodesIn}
@@ -19,21 +19,21 @@ use Rattle.lookup.proofs.path.walk.Statement.{statement}
 use Rattle.lookup.proofs.path.walk.Tie as tie
 
 abbrev Inv-children : tie.InvT-children
-Inv-children s nodes count from path skip row at end link₀ link = Kids s (nodesIn count nodes) (down s (nodesIn count nodes) from (drop skip path)) path at end link
+Inv-children s nodes count from path row at end link₀ link = Kids s (nodesIn count nodes) (down s (nodesIn count nodes) from path) path at end link
 
 abbrev μ-children : tie.MeasureT-children
-μ-children s nodes count from path skip row at end link₀ link = ahead count link
+μ-children s nodes count from path row at end link₀ link = ahead count link
 
 abbrev Inv-loop : tie.InvT-loop
-Inv-loop s nodes count from path skip row₀ at₀ row at = Way s (nodesIn count nodes) (down s (nodesIn count nodes) from (drop skip path)) path row at
+Inv-loop s nodes count from path row₀ at₀ row at = Way s (nodesIn count nodes) (down s (nodesIn count nodes) from path) path row at
 
 abbrev μ-loop : tie.MeasureT-loop
-μ-loop s nodes count from path skip row₀ at₀ row at = length path - at
+μ-loop s nodes count from path row₀ at₀ row at = length path - at
 
 loop-holds : tie.Need-loop-holds Inv-children μ-children Inv-loop μ-loop
 loop-holds c =
     let st = c .before .before .before in
-    way-start _ _ _ _ _ (rw nodes-length (st .pre .below)) (st .pre .good)
+    way-start _ _ _ _ 0 (rw nodes-length (st .pre .below)) (st .pre .good)
 
 node-at-requires : tie.Need-node-at-requires Inv-children μ-children Inv-loop μ-loop
 unfolding nodeWidth
