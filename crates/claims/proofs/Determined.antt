@@ -1,15 +1,26 @@
 -- Determined: a second answer that fits, with the tables that it leaves, is the same; and measure agrees with load wherever the room
--- suffices. Assumes nothing.
+-- suffices. The readers' own stand in crate reader (proofs/Determined). Assumes nothing.
 use mathlib.Core.Path.{_≡_, refl, sym, ap, _∙_}
 use mathlib.Core.List.{List}
 use Prim.Native.Nat.{ℕ, _≤_}
 use native.Mathlib.Omega.{arith}
-use Rattle.format.specs.Answer.{first, numbers}
+use Rattle.format.specs.Answer.{first, numbers, itself, nothing, place, orEmpty}
 use Rattle.format.specs.Load.{Tables, treeNumbers, Loads, Measures}
+use Rattle.format.specs.Lookup as table
+use Rattle.format.specs.Lookup.{Lent}
+use Rattle.format.specs.Agrees.{bytesIn}
 use Rattle.format.proofs.Load as laws
 use Rattle.loader.specs.Survey.{loadedNumbers}
 use Rattle.loader.specs.declared.Loaded.{Loaded}
 use Rattle.loader.proofs.Numbered.{loaded-same}
+use Rattle.lookup.specs.Answers.{foundNumbers, hasNumbers, valueNumbers, textNumbers, number32Numbers, number64Numbers}
+use Rattle.lookup.specs.declared.Found.{Found}
+use Rattle.lookup.specs.declared.Has.{Has}
+use Rattle.lookup.specs.declared.Value.{Value}
+use Rattle.lookup.specs.declared.Text.{Text}
+use Rattle.lookup.specs.declared.Number32.{Number32}
+use Rattle.lookup.specs.declared.Number64.{Number64}
+use Rattle.lookup.proofs.Determined as lookups
 
 pub load-determined : {lent left left′ : Tables} {b : List ℕ} (r s : Loaded) → Loads lent b (loadedNumbers r) left → Loads lent b (loadedNumbers s) left′
     → (r ≡ s) × (left ≡ left′)
@@ -22,3 +33,35 @@ measure-determined r s l m = loaded-same r s (laws.measures-determined l m)
 pub measure-agrees : {lent left : Tables} {b : List ℕ} (r s : Loaded) → Measures b (loadedNumbers r) → Loads lent b (loadedNumbers s) left
     → ((8 ≤ first (loadedNumbers s)) × (first (loadedNumbers s) ≤ 10) → ⊥) → r ≡ s
 measure-agrees {lent} {left} {b} r s m l n = loaded-same r s (m .answers ∙ sym (laws.load-measures lent b (λ h. n (rw (l .answers) h))) ∙ sym (l .answers))
+
+-- ---- the lookups, in any tables: an answer is fixed by the blob, the tables, their counts, the row, and the path or name
+
+module _ (b nodes : List ℕ) (count : ℕ) (path : List ℕ) where
+  pub find-determined : (r s : Found) → foundNumbers r ≡ numbers itself (table.find b nodes count path) → foundNumbers s ≡ numbers itself (table.find b nodes count path) → r ≡ s
+  find-determined = lookups.find-determined b nodes count path
+
+  pub find-from-determined : (row : ℕ) (r s : Found) → foundNumbers r ≡ numbers itself (table.find-from b nodes count row path)
+      → foundNumbers s ≡ numbers itself (table.find-from b nodes count row path) → r ≡ s
+  find-from-determined = lookups.find-from-determined b nodes count path
+
+module _ (b : List ℕ) (l : Lent) (row : ℕ) (name : List ℕ) where
+  pub has-prop-determined : (r s : Has) → hasNumbers r ≡ numbers nothing (table.has-prop b l row name) → hasNumbers s ≡ numbers nothing (table.has-prop b l row name) → r ≡ s
+  has-prop-determined = lookups.has-prop-determined b l row name
+
+  pub prop-raw-determined : (r s : Value) → valueNumbers r ≡ numbers place (table.prop-raw b l row name) → valueNumbers s ≡ numbers place (table.prop-raw b l row name) → r ≡ s
+  prop-raw-determined = lookups.prop-raw-determined b l row name
+
+  pub prop-raw-part-determined : (r s : List ℕ) → r ≡ orEmpty (bytesIn b (table.prop-raw b l row name)) → s ≡ orEmpty (bytesIn b (table.prop-raw b l row name)) → r ≡ s
+  prop-raw-part-determined = lookups.prop-raw-part-determined b l row name
+
+  pub prop-str-determined : (r s : Text) → textNumbers r ≡ numbers place (table.prop-str b l row name) → textNumbers s ≡ numbers place (table.prop-str b l row name) → r ≡ s
+  prop-str-determined = lookups.prop-str-determined b l row name
+
+  pub prop-str-part-determined : (r s : List ℕ) → r ≡ orEmpty (bytesIn b (table.prop-str b l row name)) → s ≡ orEmpty (bytesIn b (table.prop-str b l row name)) → r ≡ s
+  prop-str-part-determined = lookups.prop-str-part-determined b l row name
+
+  pub prop-u32-determined : (r s : Number32) → number32Numbers r ≡ numbers itself (table.prop-u32 b l row name) → number32Numbers s ≡ numbers itself (table.prop-u32 b l row name) → r ≡ s
+  prop-u32-determined = lookups.prop-u32-determined b l row name
+
+  pub prop-u64-determined : (r s : Number64) → number64Numbers r ≡ numbers itself (table.prop-u64 b l row name) → number64Numbers s ≡ numbers itself (table.prop-u64 b l row name) → r ≡ s
+  prop-u64-determined = lookups.prop-u64-determined b l row name

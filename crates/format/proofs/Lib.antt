@@ -21,3 +21,4 @@ pub mod Reached
 pub mod Cases
 pub mod Find
 pub mod Names
+pub mod Usable

@@ -10,20 +10,22 @@ use lib.Dec.{eqb}
 use borrow.Author.Tests.{eqb-true}
 use Rattle.format.specs.Choice.{if_then_else_}
 use Rattle.format.specs.Answer.{Outcome, ok, refused, nothingFound, _>>=_}
-use Rattle.format.specs.Bytes.{AreBytes}
+use Rattle.format.specs.Bytes.{AreBytes, wordAt}
+use Rattle.format.specs.Format.{structureAt}
 use Rattle.format.specs.Utf8.{Utf8, end, utf8-1, utf8-2, utf8-3-E0, utf8-3-E1, utf8-3-ED, utf8-3-EE, utf8-4-F0, utf8-4-F1, utf8-4-F4, from-utf8}
 use Rattle.format.specs.Tree.{Property, Node, node, Nodes, none, _&_, nodeCount, Tree}
 use Rattle.format.specs.Encodes.{GoodName, GoodProperties, GoodNode, GoodNodes, afterName, afterProperties, afterNode}
-use Rattle.format.specs.Find.{SLASH, head, rest, same, Place, nameOf, propertiesOf, findBelow, findAmong, find-from, placeBelow, placeAmong, placeOf, firstNamed, prop-raw}
+use Rattle.format.specs.Find.{SLASH, head, rest, same, Place, nameOf, propertiesOf, findBelow, findAmong, find-from, placeBelow, placeAmong, placeOf, firstNamed, prop-raw, afterSlash, rootPlace}
 use Rattle.format.specs.Load.{Tables, tablesAfter, Accepted}
+use Rattle.format.specs.Find as tree
 use Rattle.format.specs.Lookup as table
 use Rattle.format.specs.Agrees.{rowOf, bytesIn, used}
 use Rattle.format.proofs.Tools.{both, never-both, tested, if-yes, if-no, if-went}
-use Rattle.format.proofs.Answer.{never, ok-same}
+use Rattle.format.proofs.Answer.{never, ok-same, step}
 use Rattle.format.proofs.Utf8.{utf8-exact}
-use Rattle.format.proofs.Tables.{lookups-as-the-tree}
+use Rattle.format.proofs.Tables.{lookups-as-the-tree, find-as-the-tree}
 
-same-is : (xs ys : List ℕ) → same xs ys ≡ true → xs ≡ ys
+pub same-is : (xs ys : List ℕ) → same xs ys ≡ true → xs ≡ ys
 unfolding same
 same-is [] [] e = refl
 same-is [] (y ∷ ys) e = absurd (never-both refl e)
@@ -87,6 +89,19 @@ mutual
       (λ t e. (subst Utf8 (same-is (nameOf n) first t) (good-name n (good .0)), found-utf8 n row p later place (good .0) e))
       (λ t e. among-utf8 ns _ _ first later place (good .1) e)
 
+-- a path of the tree: its slash, and what follows
+slash-utf8 : (path below : List ℕ) → afterSlash path ≡ ok below → Utf8 below → Utf8 path
+unfolding afterSlash SLASH
+slash-utf8 [] below e u = absurd (never e)
+slash-utf8 (c ∷ path) below e u =
+    if-went _ _ _ e
+    (λ is same. let ascii : c ≡ 0x2f = eqb-true c 0x2f is in utf8-1 (omega arith) (subst Utf8 (sym (ok-same same)) u))
+    (λ _ e. absurd (never e))
+
+tree-utf8 : (b : List ℕ) (t : Tree) (path : List ℕ) (place : Place) → GoodNode (t .root) → tree.find b t path ≡ ok place → Utf8 path
+unfolding tree.find rootPlace find-from
+tree-utf8 b t path place good e = step _ _ e λ below slash e. slash-utf8 path below slash (found-utf8 (t .root) 0 _ below place good e)
+
 -- a tree's lookup that gives nothing says 11
 pub data Found {A : Type 0} : Outcome A → Type 0 where
   found : (a : A) → Found (ok a)
@@ -107,6 +122,20 @@ mutual
   among-found : (ns : Nodes) (row p : ℕ) (first later : List ℕ) → Found (findAmong ns row p first later)
   among-found none row p first later = nothing
   among-found (n & ns) row p first later = found-if (same (nameOf n) first) _ _ (path-found n row p later) (among-found ns _ _ first later)
+
+slash-found : (path : List ℕ) → Found (afterSlash path)
+unfolding afterSlash
+slash-found [] = nothing
+slash-found (c ∷ path) = found-if (eqb c SLASH) _ _ (found path) nothing
+
+then-found : {A B : Type 0} (m : Outcome A) (f : A → Outcome B) → Found m → ((a : A) → Found (f a)) → Found (m >>= f)
+unfolding _>>=_
+then-found m f (found a) h = h a
+then-found m f nothing h = nothing
+
+pub tree-found : (b : List ℕ) (t : Tree) (path : List ℕ) → Found (tree.find b t path)
+unfolding tree.find find-from rootPlace
+tree-found b t path = then-found (afterSlash path) _ (slash-found path) (λ below. path-found (t .root) 0 (wordAt b structureAt) below)
 
 name-utf8 : (xs : List Property) (name value : List ℕ) → GoodProperties xs → firstNamed xs name ≡ ok value → Utf8 name
 unfolding firstNamed GoodProperties
@@ -162,6 +191,10 @@ module _ (b : List ℕ) (t : Tree) (lent : Tables) (all : AreBytes b) (a : Accep
       let s = lookups-as-the-tree b t lent all a i h in
       let good = place-good (t .root) 0 _ i (s .start) (a .encodes .good .names) (s .is) in
       s .find-from path ∙ ap rowOf (bad-path-finds-nothing (s .start .here) (s .start .row) (s .start .position) path good bad)
+
+  pub bad-tree-path-in-tables : (path : List ℕ) → from-utf8 path ≡ false → table.find b (tablesAfter lent b (ok t) .nodes) (nodeCount (t .root)) path ≡ refused nothingFound
+  unfolding tree.find rowOf _>>=_ rootPlace find-from
+  bad-tree-path-in-tables path bad = find-as-the-tree b t lent all a path ∙ ap rowOf (not-found path _ (tree-found b t path) (λ place e. tree-utf8 b t path place (a .encodes .good .names) e) bad)
 
   pub bad-name-in-tables : (i : ℕ) (name : List ℕ) → i < nodeCount (t .root) → from-utf8 name ≡ false
       → bytesIn b (table.prop-raw b (used (tablesAfter lent b (ok t)) t) i name) ≡ refused nothingFound

@@ -13,7 +13,7 @@ use Rattle.format.specs.Choice.{if_then_else_}
 use Rattle.format.specs.Format.{NONE}
 use Rattle.format.specs.Rows.{NodeRow, at}
 use Rattle.format.specs.Find.{head, rest, same}
-use Rattle.format.specs.Lookup.{linkGood, linksGood, nameInside, nameAt, across, compared}
+use Rattle.format.specs.Lookup.{linkGood, linksGood, nameInside, nameAt, across, compared, comparedFrom}
 use Rattle.format.specs.Shape.{count}
 use Rattle.format.proofs.Tools.{both, never-both, tested}
 use Rattle.format.proofs.Lookup.{across-other, across-here, across-below, across-none, across-bad}
@@ -164,3 +164,8 @@ module _ (b : List ℕ) (R : List NodeRow) where
   -- Whatever the rows hold, no row is compared twice.
   pub compared-once : (turns r x : ℕ) (first later : List ℕ) → count x (compared b R turns r first later) ≤ 1
   compared-once turns r x first later = rising-once 0 x _ (rises turns 0 r first later (inr (omega arith)))
+
+  pub path-compares-once : (r x : ℕ) (path : List ℕ) → count x (comparedFrom b R r path) ≤ 1
+  unfolding comparedFrom count
+  path-compares-once r x [] = omega arith
+  path-compares-once r x (c ∷ path) = compared-once (length R) (at R r .firstChild) x (head (c ∷ path)) (rest (c ∷ path))

@@ -52,6 +52,11 @@ compared b R (suc turns) r first later =
     else compared b R turns (at R r .nextSibling) first later))
     else [])
 
+-- those of a path from row r
+unfoldable pub comparedFrom : List ℕ → List NodeRow → ℕ → List ℕ → List ℕ
+comparedFrom b R r [] = []
+comparedFrom b R r (c ∷ path) = compared b R (length R) (at R r .firstChild) (head (c ∷ path)) (rest (c ∷ path))
+
 -- a path from a row that is reached and judged
 unfoldable pub down : List ℕ → List NodeRow → ℕ → List ℕ → Outcome ℕ
 down b R r [] = ok r

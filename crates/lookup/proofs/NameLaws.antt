@@ -10,26 +10,16 @@ use mathlib.Core.Bool.{Bool, true, false, _&&_}
 use lib.Dec.{eqb}
 use lib.ListN.{length, take, drop, getD, length-drop, drop-of-length-le}
 use lib.Seq.{take-suc, drop-cons, getD-drop, getD-take, ext-getD}
-use borrow.Author.Tests.{eqb-true, eqb-false, eq-eqb, ne-eqb}
+use borrow.Author.Tests.{eq-eqb, ne-eqb}
 use Rattle.format.specs.Choice.{if_then_else_}
 use Rattle.format.specs.Bytes.{part, AreBytes}
 use Rattle.format.specs.Find.{SLASH, head, rest, same}
-use Rattle.format.proofs.Tools.{split, both, tested, never-both, if-yes, if-no}
+use Rattle.format.proofs.Tools.{split, tested, if-yes, if-no}
 use Rattle.format.proofs.Bytes.{part-length}
+use Rattle.format.proofs.Names.{same-is}
 use Rattle.lookup.specs.Places.{NameEnd, lowest}
 
 -- ---- the same bytes
-
-same-eq : (xs ys : List ℕ) → same xs ys ≡ true → xs ≡ ys
-unfolding same
-same-eq [] [] e = refl
-same-eq [] (y ∷ ys) e = let z : _≡_ {A = ℕ} 0 1 = cc in absurd (omega arith)
-same-eq (x ∷ xs) [] e = let z : _≡_ {A = ℕ} 0 1 = cc in absurd (omega arith)
-same-eq (x ∷ xs) (y ∷ ys) e =
-    let h = both (eqb x y) (same xs ys) e in
-    let p = eqb-true x y (h .0) in
-    let q = same-eq xs ys (h .1) in
-    cc
 
 same-self : (xs : List ℕ) → same xs xs ≡ true
 unfolding same
@@ -37,7 +27,7 @@ same-self [] = refl
 same-self (x ∷ xs) = rw (eq-eqb x x refl, same-self xs)
 
 unequal : (xs ys : List ℕ) → (xs ≡ ys → ⊥) → same xs ys ≡ false
-unequal xs ys n = tested (same xs ys) (λ e. absurd (n (same-eq xs ys e))) (λ e. e)
+unequal xs ys n = tested (same xs ys) (λ e. absurd (n (same-is xs ys e))) (λ e. e)
 
 pub length-differs : (s : List ℕ) (a n : ℕ) (t : List ℕ) (b m : ℕ) → a + n ≤ length s → b + m ≤ length t → n ≢ m → false ≡ same (part s a n) (part t b m)
 length-differs s a n t b m fs ft d = sym (unequal (part s a n) (part t b m) (λ e. d (sym (part-length s a n fs) ∙ ap length e ∙ part-length t b m ft)))
