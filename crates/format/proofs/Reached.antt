@@ -20,19 +20,19 @@ use Rattle.format.proofs.Lookup.{across-other, across-here, across-belo
 
 -- ---- turns enough
 
-record There (n r : ℕ) : Type 0 where
-  inside : r < n
-  some : r ≢ NONE
+pub record There (n r : ℕ) : Type 0 where
+  pub inside : r < n
+  pub some : r ≢ NONE
 
-record Row (n r l : ℕ) : Type 0 where
-  above : r < l
-  inside : l < n
-  some : l ≢ NONE
+pub record Row (n r l : ℕ) : Type 0 where
+  pub above : r < l
+  pub inside : l < n
+  pub some : l ≢ NONE
 
 module _ (b : List ℕ) (R : List NodeRow) where
   -- what a good link leads to
 
-  follows : (r l : ℕ) → linkGood R r l ≡ true → (l ≡ NONE) ⊎ (Row (length R) r l)
+  pub follows : (r l : ℕ) → linkGood R r l ≡ true → (l ≡ NONE) ⊎ (Row (length R) r l)
   unfolding linkGood
   follows r l e = go (eqb l NONE) refl e
     where
@@ -40,23 +40,23 @@ module _ (b : List ℕ) (R : List NodeRow) where
       go true f e = inl (eqb-true _ _ f)
       go false f e = let h = both _ _ e in inr (record { above = ltb-true _ _ (h .0); inside = ltb-true _ _ (h .1); some = λ same. never-both f (eq-eqb l NONE same) })
 
-  abbrev Here : ℕ → Type 0
+  abbrev pub Here : ℕ → Type 0
   Here r = There (length R) r
 
   -- enough turns from row r
-  abbrev Enough : ℕ → ℕ → Type 0
+  abbrev pub Enough : ℕ → ℕ → Type 0
   Enough turns r = (0 < turns) × (r ≢ NONE → length R < r + turns)
 
-  next-enough : (f r l : ℕ) → Here r → Enough (suc f) r → linkGood R r l ≡ true → Enough f l
+  pub next-enough : (f r l : ℕ) → Here r → Enough (suc f) r → linkGood R r l ≡ true → Enough f l
   next-enough f r l inside h e =
       let step : (0 < f) × (length R < r + suc f) = (omega (arith, h .1 (inside .some), inside .inside), h .1 (inside .some)) in
       ⊎-elim (λ same. (step .0, λ other. absurd (other same))) (λ k. (step .0, λ other. omega (arith, k .above, k .inside, step .1))) (follows r l e)
 
   -- the same answer with f turns and with g, wherever a good link leads
-  abbrev Same : ℕ → ℕ → Type 0
+  abbrev pub Same : ℕ → ℕ → Type 0
   Same f g = (l : ℕ) (first later : List ℕ) → (l ≡ NONE) ⊎ Here l → Enough f l → Enough g l → across b R f l first later ≡ across b R g l first later
 
-  links-good : (r : ℕ) → (linksGood R r && nameInside b R r) ≡ true
+  pub links-good : (r : ℕ) → (linksGood R r && nameInside b R r) ≡ true
       → (linkGood R r (at R r .firstChild) ≡ true) × (linkGood R r (at R r .nextSibling) ≡ true)
   unfolding linksGood
   links-good r e =
@@ -86,7 +86,7 @@ module _ (b : List ℕ) (R : List NodeRow) where
   row-turn f g r first later inside hf hg ih true e = good-turn f g r first inside hf hg ih e (same (nameAt b R r) first) refl later
 
   -- Any number of turns that is large enough gives the same answer: `across` never runs out.
-  turns-enough : (f g : ℕ) → Same f g
+  pub turns-enough : (f g : ℕ) → Same f g
   turns-enough zero g r first later at-r hf hg = absurd (omega arith)
   turns-enough (suc f) zero r first later at-r hf hg = absurd (omega arith)
   turns-enough (suc f) (suc g) r first later at-r hf hg =

@@ -1,16 +1,16 @@
 -- Looking up a path: what holds before each part of it and before each child, and the public calls by cases. Assumes nothing.
 use mathlib.Core.Path.{_≡_, refl, sym, ap, _∙_}
-use mathlib.Core.Logic.{_≢_}
+use mathlib.Core.Logic.{_⊎_, inl, inr, ⊎-elim, _≢_}
 use Prim.Native.Nat.{ℕ, zero, suc, _+_, _-_, _*_, _/_, _≤_, _<_}
 use native.Mathlib.Omega.{arith}
 use mathlib.Core.List.{List, [], _∷_}
-use mathlib.Core.Bool.{Bool, true, false, _&&_}
+use mathlib.Core.Bool.{Bool, true, false, not, _&&_}
 use lib.Dec.{eqb, leb, ltb}
 use lib.ListN.{length, take, drop, getD, length-drop, drop-of-length-le}
 use lib.Seq.{drop-cons, take-length}
-use borrow.Author.Tests.{ne-eqb, eq-eqb, leb-true, le-leb, lt-leb, lt-ltb, le-ltb}
+use borrow.Author.Tests.{ne-eqb, eq-eqb, eqb-true, leb-true, le-leb, lt-leb, lt-ltb, le-ltb}
 use Rattle.format.specs.Choice.{if_then_else_}
-use Rattle.format.specs.Answer.{Outcome, ok, refused, nothingFound, notUsable}
+use Rattle.format.specs.Answer.{Refusal, Outcome, ok, refused, _>>=_, nothingFound, notUsable}
 use Rattle.format.specs.Bytes.{part}
 use Rattle.format.specs.Format.{NONE, nodeWidth}
 use Rattle.format.specs.Rows.{at, nodesIn}
@@ -18,131 +18,226 @@ use Rattle.format.specs.Rows as rows
 use Rattle.format.specs.Load.{capacity}
 use Rattle.format.specs.Find.{head, rest, same, SLASH, afterSlash}
 use Rattle.format.specs.Lookup.{linkGood, linksGood, nameInside, nameAt, across, down, reach, usable, find-from, find}
-use Rattle.format.proofs.Tools.{both, if-yes, if-no}
-use Rattle.format.proofs.Answer.{then-ok, then-refused, check-ok, check-no}
+use Rattle.format.proofs.Tools.{both, never-both, tested, if-yes, if-no}
+use Rattle.format.proofs.Answer.{never, ok-same, then-ok, then-refused, check-ok, check-no}
 use Rattle.format.proofs.Lookup.{across-other, across-here, across-below, across-none, across-bad}
-use Rattle.lookup.specs.Places.{IsNode, NameEnd}
+use Rattle.format.proofs.Reached.{There, follows, links-good, Enough, next-enough, turns-enough}
+use Rattle.lookup.specs.Places.{IsNode, NameEnd, leadsTo, childFrom, childOf}
 use Rattle.lookup.specs.declared.judge.NodeRow.{NodeRow}
 use Rattle.lookup.proofs.RowLaws.{nodes-length, leads, links-of, ahead, fewer-ahead}
 
--- ---- what is left of a path below a row that was judged, with that many turns
+-- ---- one turn of the search for a child
 
-unfoldable pub downBy : List ℕ → List rows.NodeRow → ℕ → ℕ → List ℕ → Outcome ℕ
-downBy b R turns r [] = ok r
-downBy b R turns r (c ∷ path) = across b R turns (at R r .firstChild) (head (c ∷ path)) (rest (c ∷ path))
+module _ (b : List ℕ) (R : List rows.NodeRow) where
+  child-zero : (r : ℕ) (first : List ℕ) → refused notUsable ≡ childFrom b R zero r first
+  unfolding childFrom
+  child-zero r first = refl
 
-down-by : (b : List ℕ) (R : List rows.NodeRow) (r : ℕ) (path : List ℕ) → down b R r path ≡ downBy b R (length R) r path
-unfolding down downBy
-down-by b R r [] = refl
-down-by b R r (c ∷ path) = refl
+  child-none : (turns : ℕ) (first : List ℕ) → childFrom b R (suc turns) NONE first ≡ refused nothingFound
+  unfolding childFrom
+  child-none turns first = if-yes _ _ (eq-eqb NONE NONE refl)
 
-down-step : (b : List ℕ) (R : List rows.NodeRow) (turns r : ℕ) (path : List ℕ) (i : ℕ) → i < length path
-    → downBy b R turns r (drop i path) ≡ across b R turns (at R r .firstChild) (head (drop i path)) (rest (drop i path))
-unfolding downBy
-down-step b R turns r path i h = rw (drop-cons path i 0 h)
+  module _ (turns r : ℕ) (first : List ℕ) (some : r ≢ NONE) where
+    child-bad : (linksGood R r && nameInside b R r) ≡ false → childFrom b R (suc turns) r first ≡ refused notUsable
+    unfolding childFrom
+    child-bad e = if-no _ _ (ne-eqb r NONE some) ∙ if-no _ _ e
 
-turn-here : (b : List ℕ) (R : List rows.NodeRow) (turns r : ℕ) (first : List ℕ) → r ≢ NONE → (linksGood R r && nameInside b R r) ≡ true
-    → same (nameAt b R r) first ≡ true → (later : List ℕ) → across b R (suc turns) r first later ≡ downBy b R turns r later
-unfolding downBy
-turn-here b R turns r first some good e [] = across-here b R turns r first some good e
-turn-here b R turns r first some good e (c ∷ s) = across-below b R turns r first some good c s e
+    module _ (good : (linksGood R r && nameInside b R r) ≡ true) where
+      child-here : same (nameAt b R r) first ≡ true → childFrom b R (suc turns) r first ≡ ok r
+      unfolding childFrom
+      child-here e = if-no _ _ (ne-eqb r NONE some) ∙ if-yes _ _ good ∙ if-yes _ _ e
 
--- ---- the invariants; `goal` is what the whole lookup answers
+      child-next : same (nameAt b R r) first ≡ false → childFrom b R (suc turns) r first ≡ childFrom b R turns (at R r .nextSibling) first
+      unfolding childFrom
+      child-next e = if-no _ _ (ne-eqb r NONE some) ∙ if-yes _ _ good ∙ if-no _ _ e
 
--- before each part of the path: the row is judged, and there are turns enough
+  -- what a good link leads to
+  led : (r l : ℕ) → linkGood R r l ≡ true → (l ≡ NONE) ⊎ There (length R) l
+  led r l e = ⊎-elim (λ same. inl same) (λ k. inr (record { inside = k .inside; some = k .some })) (follows b R r l e)
+
+  -- ---- `across` is the search for a child, and then the way down from it
+
+  abbrev Splits : ℕ → ℕ → Type 0
+  Splits turns r = (first later : List ℕ) → across b R turns r first later ≡ (childFrom b R turns r first >>= λ c. down b R c later)
+
+  here-down : (turns r : ℕ) → There (length R) r → Enough b R (suc turns) r → (good : (linksGood R r && nameInside b R r) ≡ true)
+      → (first later : List ℕ) → same (nameAt b R r) first ≡ true → across b R (suc turns) r first later ≡ down b R r later
+  unfolding down
+  here-down turns r there enough good first [] e = across-here b R turns r first (there .some) good e
+  here-down turns r there enough good first (c ∷ s) e =
+      let link = links-good b R r good .0 in
+      let l = at R r .firstChild in
+      across-below b R turns r first (there .some) good c s e
+      ∙ turns-enough b R turns (length R) l (head (c ∷ s)) (rest (c ∷ s)) (led r l link) (next-enough b R turns r l there enough link)
+      (omega (arith, there .inside), λ other. ⊎-elim (λ same. absurd (other same)) (λ k. omega (arith, k .above)) (follows b R r l link))
+
+  splits-turn : (turns r : ℕ) → There (length R) r → Enough b R (suc turns) r → (Enough b R turns (at R r .nextSibling) → (at R r .nextSibling ≡ NONE) ⊎ There (length R) (at R r .nextSibling) → Splits turns (at R r .nextSibling))
+      → Splits (suc turns) r
+  splits-turn turns r there enough ih first later =
+      tested (linksGood R r && nameInside b R r)
+      (λ good. tested (same (nameAt b R r) first)
+      (λ e. here-down turns r there enough good first later e ∙ sym (then-ok _ _ (child-here turns r first (there .some) good e) refl))
+      (λ e. let link = links-good b R r good .1 in
+      across-other b R turns r first (there .some) good later e
+      ∙ ih (next-enough b R turns r (at R r .nextSibling) there enough link) (led r (at R r .nextSibling) link) first later
+      ∙ ap (λ m. m >>= λ c. down b R c later) (sym (child-next turns r first (there .some) good e))))
+      (λ bad. across-bad b R turns r first later (there .some) bad ∙ sym (then-refused _ _ (child-bad turns r first (there .some) bad)))
+
+  splits : (turns r : ℕ) → (r ≡ NONE) ⊎ There (length R) r → Enough b R turns r → Splits turns r
+  splits zero r at-r enough first later = absurd (omega (arith, enough .0))
+  splits (suc turns) r at-r enough first later =
+      ⊎-elim
+      (λ e. rw e (across-none b R turns first later ∙ sym (then-refused _ _ (child-none turns first))))
+      (λ there. splits-turn turns r there enough (λ next at-next. splits turns (at R r .nextSibling) at-next next) first later)
+      at-r
+
+  -- a child that is found is a row that was judged
+  found-good : (turns r : ℕ) (first : List ℕ) (c : ℕ) → (r ≡ NONE) ⊎ There (length R) r → childFrom b R turns r first ≡ ok c → (c < length R) × (linksGood R c ≡ true)
+  found-good zero r first c at-r e = absurd (never (child-zero r first ∙ e))
+  found-good (suc turns) r first c at-r e =
+      ⊎-elim
+      (λ none. absurd (never (sym (child-none turns first) ∙ rw none at e)))
+      (λ there. tested (linksGood R r && nameInside b R r)
+      (λ good. tested (same (nameAt b R r) first)
+      (λ here. let is : r ≡ c = ok-same (sym (child-here turns r first (there .some) good here) ∙ e) in
+      rw (← is) (there .inside, both (linksGood R r) (nameInside b R r) good .0))
+      (λ other. found-good turns (at R r .nextSibling) first c (led r (at R r .nextSibling) (links-good b R r good .1)) (sym (child-next turns r first (there .some) good other) ∙ e)))
+      (λ bad. absurd (never (sym (child-bad turns r first (there .some) bad) ∙ e))))
+      at-r
+
+-- ---- the path: before each part of it the row is judged, and what is left below it gives the whole answer
+
 pub record Way (b : List ℕ) (R : List rows.NodeRow) (goal : Outcome ℕ) (path : List ℕ) (row i : ℕ) : Type 0 where
-  pub turns : ℕ
   pub there : row < length R
-  pub enough : length R ≤ row + turns
   pub good : linksGood R row ≡ true
-  pub same : goal ≡ downBy b R turns row (drop i path)
+  pub same : goal ≡ down b R row (drop i path)
 
--- before each child: the link is a good one of an earlier row
-pub record Kids (b : List ℕ) (R : List rows.NodeRow) (goal : Outcome ℕ) (path : List ℕ) (i end link : ℕ) : Type 0 where
+module _ (b : List ℕ) (R : List rows.NodeRow) where
+  pub way-start : (path : List ℕ) (row : ℕ) → row < length R → linksGood R row ≡ true → Way b R (down b R row path) path row 0
+  way-start path row h g = record { there = h; good = g; same = refl }
+
+  down-step : (r : ℕ) (path : List ℕ) (i : ℕ) → i < length path → down b R r (drop i path) ≡ across b R (length R) (at R r .firstChild) (head (drop i path)) (rest (drop i path))
+  unfolding down
+  down-step r path i h = rw (drop-cons path i 0 h)
+
+  module _ (goal : Outcome ℕ) (path : List ℕ) (row i : ℕ) (w : Way b R goal path row i) where
+    pub way-end : length path ≤ i → ok row ≡ goal
+    unfolding down
+    way-end h = sym (w .same ∙ rw (drop-of-length-le path h))
+
+    module _ (h : i < length path) (end : ℕ) (e : NameEnd path i end) where
+      first-enough : Enough b R (length R) (at R row .firstChild)
+      first-enough = (
+        omega (arith, w .there),
+        λ other. ⊎-elim (λ same. absurd (other same)) (λ k. omega (arith, k .above)) (follows b R row (at R row .firstChild) (links-of R row (w .good) .0)),
+      )
+
+      splits-here : goal ≡ (childOf b R row (part path i (end - i)) >>= λ c. down b R c (drop (end + 1) path))
+      unfolding childOf
+      splits-here =
+          w .same
+          ∙ down-step row path i h
+          ∙ rw (e .first, e .later) (splits b R (length R) (at R row .firstChild) (led b R row (at R row .firstChild) (links-of R row (w .good) .0)) first-enough (part path i (end - i)) (drop (end + 1) path))
+
+      pub way-refused : (r : Refusal) → childOf b R row (part path i (end - i)) ≡ refused r → refused r ≡ goal
+      way-refused r f = sym (splits-here ∙ then-refused _ _ f)
+
+      pub way-down : (c : ℕ) → childOf b R row (part path i (end - i)) ≡ ok c → Way b R goal path c (end + 1)
+      unfolding childOf
+      way-down c f =
+          let good = found-good b R (length R) (at R row .firstChild) (part path i (end - i)) c (led b R row (at R row .firstChild) (links-of R row (w .good) .0)) f in
+          record { there = good .0; good = good .1; same = splits-here ∙ then-ok _ _ f refl }
+
+-- ---- the children: `goal` is what the search answers
+
+-- before a link is followed: it is a good one of an earlier row, and there are turns enough
+pub record Kids (b : List ℕ) (R : List rows.NodeRow) (goal : Outcome ℕ) (first : List ℕ) (low link : ℕ) : Type 0 where
   pub turns : ℕ
-  pub low : ℕ
   pub there : low < length R
   pub enough : length R ≤ low + turns
   pub good : linkGood R low link ≡ true
-  pub same : goal ≡ across b R turns link (part path i (end - i)) (drop (end + 1) path)
+  pub same : goal ≡ childFrom b R turns link first
+
+-- before a row is judged
+pub record Kid (b : List ℕ) (R : List rows.NodeRow) (goal : Outcome ℕ) (first : List ℕ) (row : ℕ) : Type 0 where
+  pub turns : ℕ
+  pub there : row < length R
+  pub some : row ≢ NONE
+  pub enough : length R ≤ row + turns
+  pub same : goal ≡ childFrom b R (suc turns) row first
 
 module _ (b : List ℕ) (R : List rows.NodeRow) where
-  pub way-start : (path : List ℕ) (row i : ℕ) → row < length R → linksGood R row ≡ true → Way b R (down b R row (drop i path)) path row i
-  way-start path row i h g = record {
+  pub kids-begin : (row : ℕ) (first : List ℕ) (x : NodeRow) → row < length R → linksGood R row ≡ true → IsNode x (at R row) → Kids b R (childOf b R row first) first row (x .child)
+  unfolding childOf
+  kids-begin row first x there good is = record {
     turns = length R;
-    there = h;
+    there = there;
     enough = omega arith;
-    good = g;
-    same = down-by b R row (drop i path);
+    good = rw (is .child) (links-of R row good .0);
+    same = rw (is .child);
   }
 
-  module _ (goal : Outcome ℕ) (path : List ℕ) where
-    pub way-end : (row i : ℕ) → Way b R goal path row i → length path ≤ i → ok row ≡ goal
-    unfolding downBy
-    way-end row i w h = sym (w .same ∙ rw (drop-of-length-le path h))
-
-    pub kids-begin : (row i end : ℕ) (x : NodeRow) → Way b R goal path row i → i < length path → NameEnd path i end → IsNode x (at R row)
-        → Kids b R goal path i end (x .child)
-    kids-begin row i end x w h e is = record {
-      turns = w .turns;
-      low = row;
-      there = w .there;
-      enough = w .enough;
-      good = rw (is .child) (links-of R row (w .good) .0);
-      same = w .same ∙ down-step b R (w .turns) row path i h ∙ rw (is .child, e .first, e .later);
-    }
-
-    module _ (i end link : ℕ) (x : Kids b R goal path i end link) where
+  module _ (goal : Outcome ℕ) (first : List ℕ) where
+    module _ (low link : ℕ) (x : Kids b R goal first low link) where
       -- there is a turn left
-      turned : goal ≡ across b R (suc (x .turns - 1)) link (part path i (end - i)) (drop (end + 1) path)
+      turned : goal ≡ childFrom b R (suc (x .turns - 1)) link first
       turned =
           let left : x .turns ≡ suc (x .turns - 1) = omega (arith, x .there, x .enough) in
-          x .same ∙ ap (λ k. across b R k link (part path i (end - i)) (drop (end + 1) path)) left
+          x .same ∙ ap (λ k. childFrom b R k link first) left
 
       pub kids-none : link ≡ NONE → refused nothingFound ≡ goal
-      kids-none e = sym (turned ∙ rw e (across-none b R (x .turns - 1) (part path i (end - i)) (drop (end + 1) path)))
+      kids-none e = sym (turned ∙ rw e (child-none b R (x .turns - 1) first))
 
-      module _ (some : link ≢ NONE) where
-        pub kids-below : (x .low < link) × (link < length R)
-        kids-below = leads R (x .low) link (x .good) some
+      pub kids-below : link ≢ NONE → (low < link) × (link < length R)
+      kids-below some = leads R low link (x .good) some
 
-        pub kids-bad : (linksGood R link && nameInside b R link) ≡ false → refused notUsable ≡ goal
-        kids-bad e = sym (turned ∙ across-bad b R (x .turns - 1) link (part path i (end - i)) (drop (end + 1) path) some e)
+      pub kids-some : link ≢ NONE → Kid b R goal first link
+      kids-some some = record {
+        turns = x .turns - 1;
+        there = kids-below some .1;
+        some = some;
+        enough = omega (arith, kids-below some, x .enough, x .there);
+        same = turned;
+      }
 
-        module _ (node : NodeRow) (is : IsNode node (at R link)) (g : (linksGood R link && nameInside b R link) ≡ true) where
-          good : linksGood R link ≡ true
-          good = both (linksGood R link) (nameInside b R link) g .0
+    module _ (row : ℕ) (x : Kid b R goal first row) where
+      pub kid-bad : (linksGood R row && nameInside b R row) ≡ false → refused notUsable ≡ goal
+      kid-bad e = sym (x .same ∙ child-bad b R (x .turns) row first (x .some) e)
 
-          name-is : nameAt b R link ≡ part b (node .name) (node .len)
-          unfolding nameAt
-          name-is = rw (is .name, is .len)
+      module _ (node : NodeRow) (is : IsNode node (at R row)) (g : (linksGood R row && nameInside b R row) ≡ true) where
+        name-is : nameAt b R row ≡ part b (node .name) (node .len)
+        unfolding nameAt
+        name-is = rw (is .name, is .len)
 
-          pub kids-inside : node .name + node .len ≤ length b
-          unfolding nameInside
-          kids-inside = rw (is .name, is .len) (leb-true _ _ (both (linksGood R link) (nameInside b R link) g .1))
+        pub kid-inside : node .name + node .len ≤ length b
+        unfolding nameInside
+        kid-inside = rw (is .name, is .len) (leb-true _ _ (both (linksGood R row) (nameInside b R row) g .1))
 
-          pub kids-here : same (part b (node .name) (node .len)) (part path i (end - i)) ≡ true → Way b R goal path link (end + 1)
-          kids-here e = record {
-            turns = x .turns - 1;
-            there = kids-below .1;
-            enough = omega (arith, kids-below, x .enough, x .there);
-            good = good;
-            same = turned ∙ turn-here b R (x .turns - 1) link (part path i (end - i)) some g (rw name-is e) (drop (end + 1) path);
-          }
+        pub kid-here : same (part b (node .name) (node .len)) first ≡ true → ok row ≡ goal
+        kid-here e = sym (x .same ∙ child-here b R (x .turns) row first (x .some) g (rw name-is e))
 
-          pub kids-next : same (part b (node .name) (node .len)) (part path i (end - i)) ≡ false → Kids b R goal path i end (node .next)
-          kids-next e = record {
-            turns = x .turns - 1;
-            low = link;
-            there = kids-below .1;
-            enough = omega (arith, kids-below, x .enough, x .there);
-            good = rw (is .next) (links-of R link good .1);
-            same = turned ∙ across-other b R (x .turns - 1) link (part path i (end - i)) some g (drop (end + 1) path) (rw name-is e) ∙ rw (is .next);
-          }
+        next-good : linkGood R row (node .next) ≡ true
+        next-good = rw (is .next) (links-of R row (both (linksGood R row) (nameInside b R row) g .0) .1)
 
-          -- the links that are followed rise
-          pub kids-less : ahead (length R) (node .next) < ahead (length R) link
-          kids-less = fewer-ahead R link (node .next) some (kids-below .1) (rw (is .next) (links-of R link good .1))
+        pub kid-next : same (part b (node .name) (node .len)) first ≡ false → Kids b R goal first row (node .next)
+        kid-next e = record {
+          turns = x .turns;
+          there = x .there;
+          enough = x .enough;
+          good = next-good;
+          same = x .same ∙ child-next b R (x .turns) row first (x .some) g (rw name-is e) ∙ rw (is .next);
+        }
+
+        -- the links that are followed rise
+        pub kid-less : ahead (length R) (node .next) < ahead (length R) row
+        kid-less = fewer-ahead R row (node .next) (x .some) (x .there) next-good
+
+-- a link that leads to a row is some, and that row
+pub leads-there : (link row : ℕ) → leadsTo link row ≡ true → (link ≢ NONE) × (link ≡ row)
+unfolding leadsTo
+leads-there link row e =
+    let h = both (not (eqb link NONE)) (eqb link row) e in
+    (λ same. never-both (rw (eq-eqb link NONE same, not)) (h .0), eqb-true link row (h .1))
 
 -- ---- the public calls
 

@@ -1,15 +1,18 @@
 -- Rows by the numbers of their table, and the places that private functions go by. No public promise cites it.
 use mathlib.Core.Path.{_≡_}
-use Prim.Native.Nat.{ℕ, _+_, _-_, _*_, _≤_, _<_}
-use mathlib.Core.Bool.{true}
+use Prim.Native.Nat.{ℕ, zero, suc, _+_, _-_, _*_, _≤_, _<_}
+use mathlib.Core.Bool.{Bool, true, not, _&&_}
 use mathlib.Core.List.{List}
 use lib.ListN.{length, getD, drop}
+use lib.Dec.{eqb}
+use Rattle.format.specs.Choice.{if_then_else_}
+use Rattle.format.specs.Answer.{Outcome, ok, refused, nothingFound, notUsable}
 use Rattle.format.specs.Bytes.{part}
-use Rattle.format.specs.Format.{nodeWidth, propertyWidth}
+use Rattle.format.specs.Format.{NONE, nodeWidth, propertyWidth}
 use Rattle.format.specs.Rows.{nodesIn}
 use Rattle.format.specs.Rows as rows
-use Rattle.format.specs.Find.{head, rest}
-use Rattle.format.specs.Lookup.{linksGood}
+use Rattle.format.specs.Find.{head, rest, same}
+use Rattle.format.specs.Lookup.{linksGood, nameInside, nameAt}
 use Rattle.lookup.specs.declared.judge.NodeRow.{NodeRow}
 use Rattle.lookup.specs.declared.judge.PropRow.{PropRow}
 
@@ -70,3 +73,25 @@ pub record NameEnd (p : List ℕ) (at r : ℕ) : Type 0 where
   pub high : at ≤ length p → r ≤ length p
   pub first : head (drop at p) ≡ part p at (r - at)
   pub later : rest (drop at p) ≡ drop (r + 1) p
+
+-- a range of a path
+pub record Within (p : List ℕ) (at end : ℕ) : Type 0 where
+  pub order : at ≤ end
+  pub inside : end ≤ length p
+
+-- a link leads to a row
+unfoldable pub leadsTo : ℕ → ℕ → Bool
+leadsTo link row = not (eqb link NONE) && eqb link row
+
+-- row r and its later siblings, each reached in turn up to the first named `first`: the inner part of `across`
+unfoldable pub childFrom : List ℕ → List rows.NodeRow → ℕ → ℕ → List ℕ → Outcome ℕ
+childFrom b R zero r first = refused notUsable
+childFrom b R (suc turns) r first =
+    if eqb r NONE then refused nothingFound
+    else (if linksGood R r && nameInside b R r
+    then (if same (nameAt b R r) first then ok r else childFrom b R turns (rows.at R r .nextSibling) first)
+    else refused notUsable)
+
+-- the first child of row r of that name
+unfoldable pub childOf : List ℕ → List rows.NodeRow → ℕ → List ℕ → Outcome ℕ
+childOf b R r first = childFrom b R (length R) (rows.at R r .firstChild) first

@@ -1,11 +1,13 @@
 // Looking up a path: `DeviceTree::find` and `Node::find`.
 ghost use mathlib.Core.Path.{_≡_};
+ghost use Prim.Native.Nat.{_-_};
 ghost use Rattle.format.specs.Answer.{numbers, itself};
+ghost use Rattle.format.specs.Bytes.{part};
 ghost use Rattle.format.specs.Rows.{nodesIn};
 ghost use Rattle.format.specs.Lookup.{down, find-from};
 ghost use Rattle.format.specs.Lookup as lookup;
 ghost use Rattle.lookup.specs.Answers.{foundNumbers, foundOutcome};
-ghost use Rattle.lookup.specs.Places.{Judged};
+ghost use Rattle.lookup.specs.Places.{Judged, Within, leadsTo, childOf};
 use crate::Found;
 use crate::judge::links_are_good;
 use crate::judge::node_at;
@@ -15,7 +17,60 @@ use crate::names::same_part;
 use loader::NODE_WIDTH;
 use loader::NONE;
 
-// The path from a row that has been judged. The outer loop goes down the path, the inner one over the children.
+// Whether the link leads to that row.
+fn leads_to(link: u32, row: usize) -> bool
+    ensures { λ r. ⌜ r ≡ leadsTo link row ⌝ }
+{
+    if link == NONE {
+        return false;
+    }
+    link as usize == row
+}
+
+// The first child of a judged row that is named as the path from at up to end. Siblings often stand equally far apart: the inner loop
+// goes on to where the next one then is, so that the processor need not wait for the link, which is read and compared all the same.
+fn child_named(
+    s: &[u8],
+    nodes: &[u32],
+    count: usize,
+    parent: usize,
+    path: &[u8],
+    at: usize,
+    end: usize,
+) -> Found
+    requires { ⌜ Judged (now nodes) count parent × Within (now path) at end ⌝ }
+    ensures { λ r. ⌜ foundOutcome r ≡ childOf (now (s .entry)) (nodesIn count (now (nodes .entry))) parent (part (now (path .entry)) at (end - at)) ⌝ }
+{
+    let own = node_at(nodes, parent);
+    let mut link = own.child;
+    let mut before = parent;
+    let child = 'children: loop {
+        if link == NONE {
+            return Found::Nothing;
+        }
+        let mut row = link as usize;
+        let step = row - before;
+        loop {
+            let guess = row + step;
+            let node = node_at(nodes, row);
+            if !row_is_good(node, row, count, s.len()) {
+                return Found::Unusable;
+            }
+            if same_part(s, node.name, node.len, path, at, end) {
+                break 'children row;
+            }
+            link = node.next;
+            before = row;
+            if !leads_to(link, guess) {
+                break;
+            }
+            row = guess;
+        }
+    };
+    Found::Row(child)
+}
+
+// The path from a row that has been judged.
 fn walk(s: &[u8], nodes: &[u32], count: usize, from: usize, path: &[u8]) -> Found
     requires { ⌜ Judged (now nodes) count from ⌝ }
     ensures { λ r. ⌜ foundOutcome r ≡ down (now (s .entry)) (nodesIn count (now (nodes .entry))) from (now (path .entry)) ⌝ }
@@ -24,23 +79,11 @@ fn walk(s: &[u8], nodes: &[u32], count: usize, from: usize, path: &[u8]) -> Foun
     let mut at = 0;
     while at < path.len() {
         let end = name_end(path, at);
-        let own = node_at(nodes, row);
-        let mut link = own.child;
-        let child = 'children: loop {
-            if link == NONE {
-                return Found::Nothing;
-            }
-            let next = link as usize;
-            let node = node_at(nodes, next);
-            if !row_is_good(node, next, count, s.len()) {
-                return Found::Unusable;
-            }
-            if same_part(s, node.name, node.len, path, at, end) {
-                break 'children next;
-            }
-            link = node.next;
+        row = match child_named(s, nodes, count, row, path, at, end) {
+            Found::Row(child) => child,
+            Found::Nothing => return Found::Nothing,
+            Found::Unusable => return Found::Unusable,
         };
-        row = child;
         if path.len() <= end {
             return Found::Row(row);
         }
