@@ -1,5 +1,5 @@
 #!/bin/sh
-# The original's loader beside the static library on whole blobs: answers and every row.
+# The original beside the static library on whole blobs: load's answers, every row, and the lookups.
 #   linked.sh [--seed N] BLOB..    any .dtb files
 set -eu
 here=$(cd "$(dirname "$0")" && pwd)

@@ -1,11 +1,14 @@
 #!/usr/bin/env python3
-# Writes query lines for the readers, the UTF-8 check and the loads to standard output; the answers come from the original.
+# Writes query lines for the readers, the UTF-8 check, the loads and the lookups to standard output; readers.rs answers them.
 # With no argument: the stored list. With SEED COUNT: that many random lines, the same for the same seed.
 import random
 import sys
 
-TOP = 2**64 - 1
-ROOM = 8192
+sys.dont_write_bytecode = True
+
+from queries import lookups, rows
+from queries.blobs import blob, frame_s, leaf, limits, neighbours, node, small_trees, with_byte, with_word, word
+from queries.lines import NAME, ROOM, TOP, text, unique
 
 # RFC 3629 section 4, and the Unicode Standard's Table 3-7: the ranges of the bytes of a well-formed sequence, row by row.
 TAIL = (0x80, 0xBF)
@@ -22,16 +25,8 @@ ROWS = [
 ]
 
 
-def text(data):
-    return bytes(data).hex() if data else "-"
-
-
 def around(n):
     return [x for x in (n - 1, n, n + 1) if 0 <= x <= TOP]
-
-
-def unique(lines):
-    return list(dict.fromkeys(lines))
 
 
 # Values and steps where the sum just fits and just passes the range.
@@ -162,132 +157,6 @@ def checks():
         yield f"U {text(data)}"
 
 
-# ---- blobs for T lines
-
-NAME = 1024
-
-
-def word(n):
-    return n.to_bytes(4, "big")
-
-
-def padded(data):
-    return data + bytes(-len(data) % 4)
-
-
-# A node with its properties (name and value) and children.
-def node(name, props=(), children=()):
-    return (name, list(props), list(children))
-
-
-# Nodes one inside another.
-def chain(depth, inner):
-    for _ in range(depth - 1):
-        inner = node(b"n", [], [inner])
-    return inner
-
-
-def structure(tree, strings):
-    name, props, children = tree
-    out = word(1) + padded(name + b"\0")
-    for key, value in props:
-        at = strings.find(key + b"\0")
-        if at < 0:
-            at = len(strings)
-            strings += key + b"\0"
-        out += word(3) + word(len(value)) + word(at) + padded(value)
-    for child in children:
-        out += structure(child, strings)
-    return out + word(2)
-
-
-# A header, reservations, the structure and the strings. The last reservation has the size 0.
-def blob(tree, reserved=((0, 0),), boot=0, end=word(9), order="rts"):
-    strings = bytearray()
-    body = structure(tree, strings) + end
-    blocks = {"r": b"".join(a.to_bytes(8, "big") + b.to_bytes(8, "big") for a, b in reserved), "t": body, "s": padded(bytes(strings)) + b"\0"}
-    at, places = 40, {}
-    for block in order:
-        places[block] = at
-        at += len(blocks[block])
-    words = [0xD00DFEED, at, places["t"], places["s"], places["r"], 17, 16, boot, len(strings), len(body)]
-    return b"".join(map(word, words)) + b"".join(blocks[block] for block in order)
-
-
-def with_word(data, at, n):
-    return data[:at] + word(n) + data[at + 4 :]
-
-
-def with_byte(data, at, n):
-    return data[:at] + bytes([n]) + data[at + 1 :]
-
-
-# Document 01's frame S.
-def frame_s():
-    words = [0xD00DFEED, 0x66, 0x38, 0x64, 0x28, 0x11, 0x10, 0, 2, 0x2C, 0, 0, 0, 0, 1, 0, 3, 4, 0, 0x2A, 1, 0x62000000, 2, 2, 9]
-    return b"".join(map(word, words)) + b"u\0"
-
-
-def leaf(name):
-    return node(name)
-
-
-def small_trees():
-    yield leaf(b"")
-    yield leaf(b"a-name-of-its-own")
-    yield node(b"", [(b"p", b"1"), (b"p", b"2")], [leaf(b"t"), leaf(b"t"), node(b"t", [(b"q", b"")])])
-    yield node(b"", [], [leaf(bytes([97 + k])) for k in range(9)])
-    yield node(b"root", [(b"a", b""), (b"ba", b"1"), (b"cba", b"12"), (b"", b"123"), (b"a", b"\0\0\0\1")])
-    yield node(b"\xc3\xa9", [(b"\xe2\x82\xac", b"\xff\xfe"), (b"\xf0\x9f\x98\x80", b"x\0")], [leaf(b"\xed\x9f\xbf")])
-    yield node(b"", [(b"v", word(1) + word(2) + word(3) + word(9))], [leaf(b"x"), leaf(b"y")])
-    yield node(b"", [(b"m", b"abc")], [node(b"c", [(b"m", b"d")], [leaf(b"")]), node(b"", [(b"n", b"")])])
-    yield node(b"", [(b"u", b"1234")], [node(b"b", [(b"u", b"12345678")], [node(b"c", [(b"u", b"s\0")])]), leaf(b"b")])
-    yield chain(15, leaf(b"in"))
-    yield chain(16, node(b"in", [(b"u", b"v")]))
-
-
-# A frame S with one thing changed: each word and each byte, shorter and longer.
-def neighbours():
-    s = frame_s()
-    for at in range(0, 100, 4):
-        for n in (0, 1, 2, 3, 4, 9, 0x11, 0x28, 0x38, 0x63, 0x64, 0x65, 0x66, 0x7FFFFFFF, 0xFFFFFFFF):
-            if n % 4 == at // 4 % 4 or n in (0, 9, 0xFFFFFFFF):
-                yield with_word(s, at, n)
-    for at in range(36, 102):
-        yield with_byte(s, at, (s[at] + 1) % 256)
-    for at in range(56, 102, 3):
-        yield with_byte(s, at, 0xFF)
-    for size in range(0, 102, 3):
-        yield s[:size]
-        if 8 <= size:
-            yield with_word(s[:size], 4, size)
-    yield with_word(s + b"\0", 4, 103)
-    yield s + b"\0"
-
-
-# Loads that are refused for depth and for room, and those that just are not.
-def limits():
-    for depth in (16, 17, 18, 40):
-        yield blob(chain(depth, leaf(b"in")))
-    yield blob(chain(17, leaf(b"\xff")))
-    yield blob(node(b"", [], [chain(15, leaf(b"a")), chain(16, leaf(b"b")), leaf(b"\xff")]))
-    for n in (64, 65, 66):
-        yield blob(leaf(b""), [(k, 1) for k in range(n - 1)] + [(0, 0)])
-    for n in (512, 513, 514):
-        yield blob(node(b"", [], [leaf(b"")] * (n - 1)))
-        yield blob(node(b"", [(b"u", b"")] * n))
-    # More than one table is short of room: reservations, then nodes, then properties.
-    yield blob(node(b"", [], [leaf(b"")] * 512), [(k, 1) for k in range(64)] + [(0, 0)])
-    yield blob(node(b"", [(b"u", b"")] * 100, [leaf(b"")] * 512))
-    # A blob of the greatest length, and one more.
-    for size in (ROOM, ROOM + 1):
-        yield with_word(frame_s() + bytes(size - 102), 4, size)
-    # Not UTF-8: a name of a node, of a property.
-    yield blob(node(b"", [], [leaf(b"\x80")]))
-    yield blob(node(b"", [(b"\xc0\x80", b"")]))
-    yield blob(node(b"\xed\xa0\x80", [(b"a", b"")], [leaf(b"b")]))
-
-
 def loads():
     s = text(frame_s())
     asks = [("2f62", "75"), ("-", "-"), ("2F", "75"), ("2f62", "7500"), ("62", "-"), ("ff", "ff")]
@@ -406,7 +275,8 @@ def stored():
     lines = []
     for part in (aligns, words, strings, parts, checks):
         lines += unique(part())
-    lines += list(bad_lines()) + list(sizes()) + unique(loads()) + list(bad_loads()) + GOOD
+    lines += list(bad_lines()) + list(sizes()) + unique(loads()) + list(bad_loads())
+    lines += unique(lookups.lines(list(samples()))) + unique(rows.lines()) + unique(rows.bad_fields()) + unique(spoiled(rows.GOOD)) + GOOD
     return "\n".join(lines)
 
 
@@ -440,10 +310,9 @@ def random_text(r):
     return out
 
 
-# A small tree's blob, at times with a few bytes or words changed, cut or made longer.
-def random_blob(r, trees):
-    data = r.choice([frame_s(), blob(r.choice(trees), order=r.choice(["rts", "tsr", "str", "srt"]))])
-    for _ in range(r.choice([0, 1, 1, 2, 5])):
+# A blob, at times with a few bytes or words changed, cut or made longer.
+def damaged(r, data):
+    for _ in range(r.choice([0, 0, 0, 0, 0, 1, 1, 2, 5])):
         at = r.randrange(len(data))
         change = r.randrange(4)
         if change == 0:
@@ -460,10 +329,31 @@ def random_blob(r, trees):
     return data
 
 
-def random_line(r, trees=list(small_trees())):
-    letter = r.choice("AWLZSUUUTT")
+# A load of a small tree, and mostly a path and a name that it has.
+def random_load(r, trees):
+    tree = r.choice(trees)
+    data = damaged(r, blob(tree, order=r.choice(["rts", "rts", "rts", "tsr", "tsr", "str"])))
+    path, name = lookups.random_asked(r, tree)
+    if r.randrange(8) == 0:
+        path, name = random_bytes(r, 12), random_bytes(r, 12)
+    return lookups.line(data, path, name)
+
+
+# Frame S's tree, those of the stored list, and some in which a lookup can go wrong.
+def random_trees():
+    twin = node(b"t", [(b"p", b"1")], [leaf(b"x"), node(b"x", [(b"q", b"22\0")], [leaf(b"y")])])
+    yield node(b"", [(b"u", word(42))], [leaf(b"b")])
+    yield from small_trees()
+    yield node(b"", [(b"p", b""), (b"p", b"text\0"), (b"q", word(1) + word(2))], [leaf(b"t"), twin, node(b"tt", [], [twin]), leaf(b"")])
+    yield node(b"", [(b"reg", word(9)), (b"reg-names", b"a\0b\0"), (b"re", b"\xff\0")], [leaf(b"cpu"), node(b"cpu@1", [(b"reg", b"abc")], [twin])])
+
+
+def random_line(r, trees=list(random_trees())):
+    letter = r.choice("AWLZSUUUTTTTRRRR")
     if letter == "T":
-        return f"T {text(random_blob(r, trees))} {text(random_bytes(r, 12))} {text(random_bytes(r, 12))}"
+        return random_load(r, trees)
+    if letter == "R":
+        return rows.random_line(r, trees)
     if letter == "U":
         return f"U {text(random_text(r) if r.randrange(4) else random_bytes(r, 12))}"
     if letter == "A":
@@ -499,14 +389,13 @@ def random_lines(seed, count):
             line = mixed_case(r, line)
         if r.randrange(6) == 0:
             line = scratched(r, line)
-        # Lines R are of other layers; they are not answered here.
-        yield "Q" + line[1:] if line[:2] == "R " else line
+        yield line
         if r.randrange(20000) == 0:
             yield r.choice("U0 ") * r.choice([65000, 66000, 70000, 200000])
 
 
 if len(sys.argv) == 3:
-    whole = "\n".join(random_lines(int(sys.argv[1]), int(sys.argv[2]))) + "\n"
+    for each in random_lines(int(sys.argv[1]), int(sys.argv[2])):
+        sys.stdout.buffer.write(each.encode("latin-1") + b"\n")
 else:
-    whole = stored()
-sys.stdout.buffer.write(whole.encode("latin-1"))
+    sys.stdout.buffer.write(stored().encode("latin-1"))

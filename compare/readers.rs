@@ -1,45 +1,42 @@
-// The original answers query lines: the crate device_tree beside the program `queries`.
-// Each line of standard input is answered by one line: 0 and values, a refusal, or 16 for a bad line.
+// Answers query lines beside the program `queries`: the readers, loads and lookups of the crate device_tree, and for rows from
+// elsewhere, which it doesn't have, document 01's lookups.
+// Each line of standard input is answered by one line: 0 and values, a refusal, or 16 for a bad line; parts by ` ; `.
 extern crate device_tree;
 
+#[allow(dead_code)]
+#[path = "loads/lines.rs"]
+mod lines;
+#[path = "loads/lookups.rs"]
+mod lookups;
 #[path = "loads/original.rs"]
 mod original;
+#[path = "loads/rows.rs"]
+mod rows;
 #[path = "loads/scope.rs"]
 mod scope;
+#[path = "loads/tree.rs"]
+mod tree;
 
 use device_tree::util::{align, SliceRead};
+use lines::{digit, spelled, FRAME, NAME, ROOM};
+use lookups::{Answer, Asked, Lookups};
+use rows::Lent;
 use std::io::{self, BufRead, BufWriter, Write};
-use std::panic::{catch_unwind, set_hook};
+use std::panic::catch_unwind;
 
-// How many rows each table has room for.
-const ROWS: scope::Room = scope::Room { reservations: 64, nodes: 512, props: 512 };
-
-const ROOM: usize = 8192;
-const NAME: usize = 1024;
-
-// What a line is answered. Values follow a 0.
-enum Answer {
-    Values(Vec<u64>),
-    Refused,
-    NotUtf8,
-    BadLine,
-    // A load's answer, part by part; an empty part is told by `-`.
-    Parts(Vec<Vec<u64>>),
+// A byte string of at most so many bytes: `-` for none, or hexadecimal.
+fn bytes(field: &[u8], most: usize) -> Option<Vec<u8>> {
+    match field {
+        b"" => None,
+        b"-" => Some(Vec::new()),
+        _ => spelled(field, most),
+    }
 }
 
-// A byte string: `-`, or an even count of hexadecimal digits, at most 8,192 bytes.
-fn bytes(field: &[u8]) -> Option<Vec<u8>> {
-    bytes_upto(field, ROOM)
-}
-
-fn bytes_upto(field: &[u8], room: usize) -> Option<Vec<u8>> {
-    if field == b"-" {
-        return Some(Vec::new());
-    }
-    if field.is_empty() || field.len() % 2 == 1 || 2 * room < field.len() {
-        return None;
-    }
-    field.chunks(2).map(|two| Some(digit(two[0], 16)? * 16 + digit(two[1], 16)?)).collect()
+// A table of at most so many numbers, each of 8 digits.
+fn table(field: &[u8], most: usize) -> Option<Vec<u32>> {
+    let b = bytes(field, 4 * most)?;
+    (b.len() % 4 == 0).then(|| b.chunks(4).map(|word| u32::from_be_bytes(word.try_into().unwrap())).collect())
 }
 
 // A number: 1 to 20 decimal digits that fit 64 bits.
@@ -47,20 +44,14 @@ fn number(field: &[u8]) -> Option<usize> {
     if field.is_empty() || 20 < field.len() {
         return None;
     }
-    field.iter().try_fold(0usize, |sum, b| {
-        sum.checked_mul(10)?.checked_add(digit(*b, 10)? as usize)
-    })
-}
-
-fn digit(b: u8, base: u32) -> Option<u8> {
-    (b as char).to_digit(base).map(|d| d as u8)
+    field.iter().try_fold(0usize, |sum, b| sum.checked_mul(10)?.checked_add(digit(*b, 10)? as usize))
 }
 
 // Runs a reader of the original. None is a refusal, and so is a panic.
-fn ask<F: FnOnce() -> Option<Vec<u64>> + std::panic::UnwindSafe>(reader: F) -> Answer {
+fn ask<F: FnOnce() -> Option<Answer> + std::panic::UnwindSafe>(reader: F) -> Answer {
     match catch_unwind(reader) {
-        Ok(Some(values)) => Answer::Values(values),
-        _ => Answer::Refused,
+        Ok(Some(values)) => [vec![0], values].concat(),
+        _ => vec![3],
     }
 }
 
@@ -69,10 +60,10 @@ fn place(buf: &[u8], part: &[u8]) -> Vec<u64> {
     vec![(part.as_ptr() as usize - buf.as_ptr() as usize) as u64, part.len() as u64]
 }
 
-// None is a bad line.
-fn answer(line: &[u8]) -> Option<Answer> {
-    let fields: Vec<&[u8]> = line.split(|b| *b == b' ').collect();
-    Some(match (fields[0], &fields[1..]) {
+// A reader's answer. None is a bad line.
+fn reader(letter: &[u8], fields: &[&[u8]]) -> Option<Answer> {
+    let bytes = |field| bytes(field, FRAME);
+    Some(match (letter, fields) {
         (b"A", [val, to]) => {
             let (val, to) = (number(val)?, number(to)?);
             ask(move || Some(vec![align(val, to) as u64]))
@@ -93,56 +84,44 @@ fn answer(line: &[u8]) -> Option<Answer> {
             let (buf, start, end) = (bytes(text)?, number(start)?, number(end)?);
             ask(move || Some(place(&buf, (&buf[..]).subslice(start, end).ok()?)))
         }
-        (b"U", [text]) => match std::str::from_utf8(&bytes(text)?) {
-            Ok(_) => Answer::Values(Vec::new()),
-            Err(_) => Answer::NotUtf8,
-        },
-        (b"T", [blob, path, name]) => {
-            let (blob, _, _) = (bytes(blob)?, bytes_upto(path, NAME)?, bytes_upto(name, NAME)?);
-            Answer::Parts(loaded(&blob))
-        }
+        (b"U", [text]) => vec![if std::str::from_utf8(&bytes(text)?).is_ok() { 0 } else { 5 }],
         _ => return None,
     })
 }
 
-// Numbers by single spaces.
-fn listed(numbers: &[u64]) -> String {
-    if numbers.is_empty() {
-        return "-".to_string();
-    }
-    numbers.iter().map(|n| n.to_string()).collect::<Vec<_>>().join(" ")
+// A blob loaded, a path found in it, and the properties there.
+fn loaded(blob: &[u8], path: &[u8], name: &[u8]) -> Option<Vec<Answer>> {
+    let (b, path, name) = (bytes(blob, FRAME)?, bytes(path, NAME)?, bytes(name, NAME)?);
+    Some(lookups::due(&b, ROOM, Some(&Asked { path, name })))
 }
 
-// The parts of a load's answer by the original: the load's, and the rows where it is 0.
-fn loaded(b: &[u8]) -> Vec<Vec<u64>> {
-    match original::answer(b, ROWS) {
-        Err(why) => vec![why],
-        Ok(rows) => {
-            let counts = [rows.reserved.len(), rows.nodes.len(), rows.props.len()].map(|n| n as u64);
-            let carries = [vec![0, 17, rows.boot], counts.to_vec()].concat();
-            vec![carries, rows.reserved.concat(), rows.nodes.concat(), rows.props.concat()]
-        }
+// Lookups in rows from elsewhere, by document 01's words.
+fn lent(fields: [&[u8]; 8]) -> Option<Vec<Answer>> {
+    let [blob, nodes, node_count, props, prop_count, start, path, name] = fields;
+    let (b, nodes, props) = (bytes(blob, FRAME)?, table(nodes, 7 * ROOM.nodes)?, table(props, 4 * ROOM.props)?);
+    let (node_count, prop_count, start) = (number(node_count)?, number(prop_count)?, number(start)?);
+    let (path, name) = (bytes(path, NAME)?, bytes(name, NAME)?);
+    let lent = Lent { b: &b, nodes: &nodes, node_count, props: &props, prop_count };
+    Some([vec![lent.find(&path), lent.find_from(start, &path)], lent.properties(start, &name).to_vec()].concat())
+}
+
+// The parts of a line's answer. None is a bad line.
+fn answer(line: &[u8]) -> Option<Vec<Answer>> {
+    let fields: Vec<&[u8]> = line.split(|b| *b == b' ').collect();
+    match (fields[0], &fields[1..]) {
+        (b"T", [blob, path, name]) => loaded(blob, path, name),
+        (b"R", fields) => lent((*fields).try_into().ok()?),
+        (letter, fields) => Some(vec![reader(letter, fields)?]),
     }
 }
 
 fn main() -> io::Result<()> {
-    set_hook(Box::new(|_| ()));
+    original::quiet();
     let mut out = BufWriter::new(io::stdout().lock());
     // A line end closes a line; what follows the last one is a line where it isn't empty.
     for line in io::stdin().lock().split(b'\n') {
-        match answer(&line?).unwrap_or(Answer::BadLine) {
-            Answer::Values(values) => {
-                write!(out, "0")?;
-                for value in values {
-                    write!(out, " {}", value)?;
-                }
-                writeln!(out)?;
-            }
-            Answer::Refused => writeln!(out, "3")?,
-            Answer::NotUtf8 => writeln!(out, "5")?,
-            Answer::BadLine => writeln!(out, "16")?,
-            Answer::Parts(parts) => writeln!(out, "{}", parts.iter().map(|p| listed(p)).collect::<Vec<_>>().join(" ; "))?,
-        }
+        let parts = answer(&line?).unwrap_or(vec![vec![16]]);
+        writeln!(out, "{}", lines::text(&parts))?;
     }
     out.flush()
 }

@@ -1,5 +1,5 @@
 #!/bin/sh
-# The readers beside the original: the stored query lines and answers of crates/queries, made again and compared.
+# The program queries beside the original: the stored query lines and answers of crates/queries, made again and compared.
 #   readers.sh                           compare with crates/queries/stdin and stdout
 #   readers.sh --write                   store them instead
 #   readers.sh --random [COUNT [SEED]]   random lines through the original and through the proved program

@@ -1,80 +1,66 @@
-// Asks the original, document 01's reading and the new loader for each input, and stops at the first difference.
-use crate::blobs::{damaged, fix_size, Random};
-use crate::original;
-use crate::ours::{hex, Answer, Limits, Ours, FRAMES};
+// Asks the original, document 01's reading and the new reader for each input, and stops at the first difference.
+use crate::asks;
+use crate::blobs::{damaged, fix_size};
+use crate::lines::{hex, spelled, text, FRAME, NAME, ROOM};
+use crate::lookups::{self, by_original, by_scope, Answer, Asked};
+use crate::ours::{Input, Program, Speaks};
+use crate::random::Random;
 use crate::scope::{self, DEPTH};
 
 pub struct Comparison {
     pub random: Random,
     pub scale: usize,
-    ours: Box<dyn Ours>,
-    waiting: Vec<Vec<u8>>,
+    // How many lookups of a path and a name follow each accepted load, where they are told.
+    pub asks: usize,
+    ours: Program,
+    waiting: Vec<Input>,
     kind: &'static str,
     seen: usize,
     pub counts: Vec<(&'static str, usize)>,
-    // How often each number was the answer.
+    // How often each number was load's answer, and a lookup's.
     pub answers: [usize; 17],
+    pub lookups: [usize; 17],
 }
 
-// The blob that a line spells; none where it is no frame.
-fn spelled(line: &[u8], most: usize) -> Option<Vec<u8>> {
-    if line.len() % 2 == 1 || 2 * most < line.len() {
-        return None;
-    }
-    let digit = |b: u8| (b as char).to_digit(16).map(|d| d as u8);
-    line.chunks(2).map(|two| Some(digit(two[0])? * 16 + digit(two[1])?)).collect()
-}
-
-// What the original and document 01's reading say of a line.
-fn both(line: &[u8], limits: Limits) -> (Answer, Answer) {
-    match spelled(line, limits.frame) {
-        None => {
-            let bad = Answer { numbers: vec![16], tables: None };
-            (bad.clone(), bad)
-        }
-        Some(b) => {
-            let read = scope::read(&b, DEPTH).and_then(|rows| scope::room(rows, limits.room));
-            (Answer::due(original::answer(&b, limits.room), limits.rows), Answer::due(read, limits.rows))
-        }
+// What the original and document 01's reading say of an input.
+fn both(input: &Input) -> (Vec<Answer>, Vec<Answer>) {
+    let asked = input.asked.as_ref();
+    match spelled(&input.line, FRAME) {
+        None => (vec![vec![16]], vec![vec![16]]),
+        Some(b) => (by_original(&b, ROOM, asked), by_scope(&b, ROOM, asked)),
     }
 }
 
-// The answer that is stored for a line.
+// The answer that is stored for a frame.
 pub fn due(line: &[u8]) -> String {
-    let (original, scope) = both(line, FRAMES);
-    assert!(
-        original == scope,
-        "{}: {} by the original, {} by document 01",
-        String::from_utf8_lossy(line),
-        original.text(),
-        scope.text()
-    );
-    original.text()
+    text(&spelled(line, FRAME).map_or(vec![vec![16]], |b| lookups::due(&b, ROOM, None)))
 }
 
 struct Difference {
-    line: Vec<u8>,
-    original: Answer,
-    scope: Answer,
-    ours: Answer,
+    input: Input,
+    original: Vec<Answer>,
+    scope: Vec<Answer>,
+    ours: String,
 }
 
 impl Comparison {
-    pub fn new(ours: Box<dyn Ours>, seed: u64, scale: usize) -> Comparison {
+    pub fn new(ours: Program, seed: u64, scale: usize) -> Comparison {
         Comparison {
             random: Random(seed),
             scale,
+            asks: 1,
             ours,
             waiting: Vec::new(),
             kind: "",
             seen: 0,
             counts: Vec::new(),
             answers: [0; 17],
+            lookups: [0; 17],
         }
     }
 
-    pub fn run(&mut self, kind: &'static str, inputs: fn(&mut Comparison)) {
-        self.kind = kind;
+    pub fn run(&mut self, kind: &'static str, asks: usize, inputs: fn(&mut Comparison)) {
+        (self.kind, self.asks) = (kind, asks);
         let begun = std::time::Instant::now();
         inputs(self);
         self.flush();
@@ -85,11 +71,11 @@ impl Comparison {
 
     // Blobs from files, whole and damaged. One that is too long for a line is to be refused as no frame.
     pub fn real(&mut self, files: &[String]) {
-        self.kind = "real";
+        (self.kind, self.asks) = ("real", 100);
         let good: Vec<Vec<u8>> = files.iter().map(|file| std::fs::read(file).expect(file)).collect();
         good.iter().for_each(|b| self.blob(b.clone()));
-        let most = self.ours.limits().frame;
-        for b in good.iter().filter(|b| b.len() <= most) {
+        self.asks = 4;
+        for b in good.iter().filter(|b| b.len() <= FRAME) {
             for _ in 0..100 * self.scale {
                 let changed = damaged(&mut self.random, b);
                 self.blob(changed);
@@ -100,37 +86,56 @@ impl Comparison {
         self.counts.push(("real", self.seen));
     }
 
+    // A blob, and where lookups are told what is looked up in it.
     pub fn blob(&mut self, b: Vec<u8>) {
-        self.line(hex(&b));
+        if self.ours.speaks == Speaks::Frames {
+            return self.line(hex(&b));
+        }
+        let rows = scope::read(&b, DEPTH).and_then(|rows| scope::room(rows, ROOM));
+        match rows.ok().filter(|_| b.len() <= FRAME) {
+            None => self.ask(&b, Asked { path: b"/".to_vec(), name: Vec::new() }),
+            Some(rows) => (0..self.asks).for_each(|_| {
+                let asked = asks::some(&mut self.random, &b, &rows, NAME);
+                self.ask(&b, asked);
+            }),
+        }
     }
 
     pub fn line(&mut self, line: Vec<u8>) {
-        self.waiting.push(line);
+        self.input(Input { line, asked: None });
+    }
+
+    pub fn ask(&mut self, b: &[u8], asked: Asked) {
+        self.input(Input { line: hex(b), asked: Some(asked) });
+    }
+
+    fn input(&mut self, input: Input) {
+        self.waiting.push(input);
         if self.waiting.len() == 2048 {
             self.flush();
         }
     }
 
     fn flush(&mut self) {
-        let lines = std::mem::take(&mut self.waiting);
-        self.seen += lines.len();
-        let mut differing = self.differences(lines);
-        differing.sort_by_key(|d| d.line.len());
+        let inputs = std::mem::take(&mut self.waiting);
+        self.seen += inputs.len();
+        let mut differing = self.differences(inputs);
+        differing.sort_by_key(|d| d.input.line.len());
         if !differing.is_empty() {
             let smallest = self.shrink(differing.swap_remove(0));
             self.stop(smallest);
         }
     }
 
-    fn differences(&mut self, lines: Vec<Vec<u8>>) -> Vec<Difference> {
-        let limits = self.ours.limits();
-        let told = self.ours.ask(&lines);
+    fn differences(&mut self, inputs: Vec<Input>) -> Vec<Difference> {
+        let told = self.ours.ask(&inputs);
         let mut differing = Vec::new();
-        for (line, ours) in lines.into_iter().zip(told) {
-            let (original, scope) = both(&line, limits);
-            self.answers[original.numbers[0].min(16) as usize] += 1;
-            if original != ours || scope != ours {
-                differing.push(Difference { line, original, scope, ours });
+        for (input, ours) in inputs.into_iter().zip(told) {
+            let (original, scope) = both(&input);
+            self.answers[original[0][0].min(16) as usize] += 1;
+            original.iter().skip(4).for_each(|answer| self.lookups[answer[0].min(16) as usize] += 1);
+            if original != scope || text(&original) != ours {
+                differing.push(Difference { input, original, scope, ours });
             }
         }
         differing
@@ -140,8 +145,7 @@ impl Comparison {
     // helps.
     fn shrink(&mut self, from: Difference) -> Difference {
         let mut least = from;
-        let most = self.ours.limits().frame;
-        let Some(mut b) = spelled(&least.line, most) else { return least };
+        let Some(mut b) = spelled(&least.input.line, FRAME) else { return least };
         let mut tries = 0;
         loop {
             let before = b.clone();
@@ -149,9 +153,9 @@ impl Comparison {
                 let mut pos = 0;
                 while pos + size <= b.len() && pos < b.len() && tries < 50_000 {
                     tries += 1;
-                    match self.smaller(&b, pos, size) {
+                    match self.smaller(&b, &least.input.asked, pos, size) {
                         Some(less) => {
-                            b = spelled(&less.line, most).unwrap();
+                            b = spelled(&less.input.line, FRAME).unwrap();
                             least = less;
                         }
                         None => pos += size.max(1),
@@ -165,28 +169,32 @@ impl Comparison {
     }
 
     // The difference that is left without a part, with the length right or as it was; a part of size 0 is a byte set to 0.
-    fn smaller(&mut self, b: &[u8], pos: usize, size: usize) -> Option<Difference> {
+    fn smaller(&mut self, b: &[u8], asked: &Option<Asked>, pos: usize, size: usize) -> Option<Difference> {
         let mut less = b.to_vec();
+        let mut left = |less: &[u8]| self.differences(vec![Input { line: hex(less), asked: asked.clone() }]).pop();
         if size == 0 {
             if less[pos] == 0 {
                 return None;
             }
             less[pos] = 0;
-            return self.differences(vec![hex(&less)]).pop();
+            return left(&less);
         }
         less.drain(pos..pos + size);
-        let as_it_was = hex(&less);
+        let as_it_was = less.clone();
         fix_size(&mut less);
-        let fixed = self.differences(vec![hex(&less)]).pop();
-        fixed.or_else(|| self.differences(vec![as_it_was]).pop())
+        left(&less).or_else(|| left(&as_it_was))
     }
 
     fn stop(&self, d: Difference) -> ! {
         println!("{}: a difference at this input:", self.kind);
-        println!("{}", String::from_utf8_lossy(&d.line));
-        println!("original:    {}", d.original.text());
-        println!("document 01: {}", d.scope.text());
-        println!("ours:        {}", d.ours.text());
+        println!("{}", String::from_utf8_lossy(&d.input.line));
+        if let Some(Asked { path, name }) = d.input.asked {
+            println!("path:        {}", path.escape_ascii());
+            println!("name:        {}", name.escape_ascii());
+        }
+        println!("original:    {}", text(&d.original));
+        println!("document 01: {}", text(&d.scope));
+        println!("ours:        {}", d.ours);
         println!("stopped at the first difference");
         std::process::exit(1);
     }

@@ -1,7 +1,10 @@
 // The kinds of input: each hands every one of its blobs, or lines, to the comparison.
+use crate::asks;
 use crate::blobs::*;
 use crate::compare::Comparison;
-use crate::ours::{hex, FRAME};
+use crate::lines::{hex, FRAME};
+use crate::lookups::Asked;
+use crate::scope::{self, DEPTH};
 
 pub fn frame_s() -> Vec<u8> {
     let words: [u32; 25] = [
@@ -296,4 +299,56 @@ pub fn lines(c: &mut Comparison) {
         }
         c.line(line);
     }
+}
+
+// Blobs in which a wrong lookup finds something else: twins of which only a later one has what is sought, names that begin with one
+// another or are empty or have a `/`, values of every kind.
+fn findable() -> Vec<Vec<u8>> {
+    let leaf = |name: &[u8]| node(name, &[], &[]);
+    let inner = [leaf(b"x"), node(b"x", &[(b"q", b"text\0")], &[leaf(b"y")])];
+    let twins = node(
+        b"",
+        &[(b"p", b""), (b"q", b"1\0"), (b"p", b"a\0b\0"), (b"q", b"12345678")],
+        &[leaf(b"t"), node(b"t", &[(b"p", b"2")], &inner), node(b"u", &[], &inner), node(b"", &[], &inner), leaf(b"")],
+    );
+    let names = node(
+        b"root",
+        &[
+            (b"reg-names", b"\xc3\xa9\0"),
+            (b"re", b"\xff\0"),
+            (b"reg", b"\0\0\0\x09\xff"),
+            (b"", b"\0"),
+            (b"a/b", b"123"),
+        ],
+        &[
+            leaf(b"abc"),
+            leaf(b"ab"),
+            node(b"a", &[(b"reg", b"abcdefg")], &[leaf(b"b")]),
+            leaf(b"a/b"),
+            leaf(b"ab@1"),
+            leaf(b"ab@10"),
+        ],
+    );
+    [twins, names].map(|tree| build(&tree, &[LAST], &Layout::USUAL)).to_vec()
+}
+
+// Every path and every name of the varied blobs, of some for the purpose and of random ones, and those close to them.
+pub fn lookups(c: &mut Comparison) {
+    let random: Vec<Vec<u8>> = (0..c.scale * 40).map(|_| random_blob(&mut c.random)).collect();
+    for b in [findable(), varied(), random].concat() {
+        let Ok(rows) = scope::read(&b, DEPTH) else { continue };
+        let paths = with_close((0..rows.nodes.len()).map(|row| asks::tree_path(&b, &rows, row)).collect());
+        let names = (0..rows.props.len()).map(|prop| asks::name(&b, &rows, prop).to_vec());
+        let names = with_close(names.chain([b"u".to_vec()]).collect());
+        for path in &paths {
+            names.iter().for_each(|name| c.ask(&b, Asked { path: path.clone(), name: name.clone() }));
+        }
+    }
+}
+
+fn with_close(texts: Vec<Vec<u8>>) -> Vec<Vec<u8>> {
+    let mut all: Vec<Vec<u8>> = texts.iter().flat_map(|text| asks::close(text)).chain(texts.clone()).collect();
+    all.sort();
+    all.dedup();
+    all
 }

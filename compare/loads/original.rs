@@ -1,12 +1,25 @@
-// The original's answer as document 01's numbers and rows. 7 to 10 are not the original's: they come from its tree.
+// The original's answers as document 01's numbers and rows. 7 to 10 are not the original's: they come from its tree.
 use crate::scope::{self, align, Refusal, Room, Rows, DEPTH, NONE};
 use device_tree::util::SliceReadError;
 use device_tree::{DeviceTree, DeviceTreeError, Node};
+use std::panic::{catch_unwind, set_hook, AssertUnwindSafe};
 
-// What the original says. A panic, which no blob is known to cause, has a number that nothing else has.
-fn load(b: &[u8]) -> Result<DeviceTree, Refusal> {
-    let loaded = std::panic::catch_unwind(|| DeviceTree::load(b)).map_err(|_| vec![99])?;
-    loaded.map_err(|why| match why {
+// A panic of the original is an answer; any other is said.
+pub fn quiet() {
+    set_hook(Box::new(|why| {
+        if !why.location().map_or(false, |at| at.file().contains("device_tree")) {
+            eprintln!("{why}");
+        }
+    }));
+}
+
+// What a call of the original gives. A panic, which no input is known to cause, has a number that nothing else has.
+pub fn given<T>(call: impl FnOnce() -> T) -> Result<T, Refusal> {
+    catch_unwind(AssertUnwindSafe(call)).map_err(|_| vec![99])
+}
+
+fn tree(b: &[u8]) -> Result<DeviceTree, Refusal> {
+    given(|| DeviceTree::load(b))?.map_err(|why| match why {
         DeviceTreeError::InvalidMagicNumber => vec![1],
         DeviceTreeError::SizeMismatch => vec![2],
         DeviceTreeError::SliceReadError(SliceReadError::UnexpectedEndOfInput) => vec![3],
@@ -66,15 +79,21 @@ impl<'a> Laid<'a> {
     }
 }
 
-// The answer that is due, by the original.
-pub fn answer(b: &[u8], room: Room) -> Result<Rows, Refusal> {
-    match load(b) {
+// What the original loaded, and the rows that its tree comes to.
+pub struct Loaded {
+    pub tree: DeviceTree,
+    pub rows: Rows,
+}
+
+// The load that is due, by the original.
+pub fn load(b: &[u8], room: Room) -> Result<Loaded, Refusal> {
+    match tree(b) {
         Ok(tree) => {
             let mut laid = Laid { b, rows: Rows::default() };
             laid.rows.boot = tree.boot_cpuid_phys as u64;
             laid.rows.reserved = tree.reserved.iter().map(|(offset, size)| [*offset, *size]).collect();
             laid.node(&tree.root, word(b, 8), 1, NONE)?;
-            scope::room(laid.rows, room)
+            Ok(Loaded { rows: scope::room(laid.rows, room)?, tree })
         }
         // A refusal that the original meets below the depth is not ours: document 01's reading says whether it is.
         Err(why) => match scope::read(b, DEPTH) {

@@ -20,6 +20,20 @@ pub struct Rows {
     pub props: Vec<[u64; 4]>,
 }
 
+impl Rows {
+    // What an accepted load answers.
+    pub fn numbers(&self) -> Vec<u64> {
+        let counts = [self.reserved.len(), self.nodes.len(), self.props.len()].map(|n| n as u64);
+        [&[0, 17, self.boot], &counts[..]].concat()
+    }
+
+    // The node table and the property table of exactly these rows.
+    pub fn tables(&self) -> (Vec<u32>, Vec<u32>) {
+        let table = |numbers: Vec<u64>| numbers.into_iter().map(|n| n as u32).collect();
+        (table(self.nodes.concat()), table(self.props.concat()))
+    }
+}
+
 // A refusal: its number, then what it carries.
 pub type Refusal = Vec<u64>;
 

@@ -1,7 +1,8 @@
 // The lines that crates/frames is run on: document 01's cases, the limits, and frames over every answer.
 use crate::blobs::*;
 use crate::kinds::*;
-use crate::ours::{hex, FRAME};
+use crate::lines::{hex, FRAME};
+use crate::random::Random;
 
 // A tree whose last block ends the blob, with so many bytes after it.
 fn ending(tree: &Node, order: [usize; 3], after: usize) -> Vec<u8> {

@@ -22,8 +22,10 @@ use Rattle.format.proofs.Tools.{both, never-both, tested, if-yes, if-no}
 use Rattle.format.proofs.Answer.{never, ok-same, then-ok, then-refused, check-ok, check-no}
 use Rattle.format.proofs.Lookup.{across-other, across-here, across-below, across-none, across-bad}
 use Rattle.format.proofs.Reached.{There, follows, links-good, Enough, next-enough, turns-enough}
-use Rattle.lookup.specs.Places.{IsNode, NameEnd, leadsTo, childFrom, childOf}
+use Rattle.lookup.specs.Places.{IsNode, NameEnd, leadsTo, childFrom, childOutcome, OwnLink, Named}
 use Rattle.lookup.specs.declared.judge.NodeRow.{NodeRow}
+use Rattle.lookup.specs.declared.path.Child.{Child}
+use Rattle.lookup.specs.declared.path.Child.the-variants.{At}
 use Rattle.lookup.proofs.RowLaws.{nodes-length, leads, links-of, ahead, fewer-ahead}
 
 -- ---- one turn of the search for a child
@@ -107,46 +109,45 @@ module _ (b : List ℕ) (R : List rows.NodeRow) where
 
 -- ---- the path: before each part of it the row is judged, and what is left below it gives the whole answer
 
-pub record Way (b : List ℕ) (R : List rows.NodeRow) (goal : Outcome ℕ) (path : List ℕ) (row i : ℕ) : Type 0 where
+pub record Way (b : List ℕ) (R : List rows.NodeRow) (goal : Outcome ℕ) (path : List ℕ) (row link i : ℕ) : Type 0 where
   pub there : row < length R
-  pub good : linksGood R row ≡ true
+  pub good : linkGood R row link ≡ true
+  pub own : link ≡ at R row .firstChild
   pub same : goal ≡ down b R row (drop i path)
 
 module _ (b : List ℕ) (R : List rows.NodeRow) where
-  pub way-start : (path : List ℕ) (row : ℕ) → row < length R → linksGood R row ≡ true → Way b R (down b R row path) path row 0
-  way-start path row h g = record { there = h; good = g; same = refl }
+  pub way-start : (path : List ℕ) (row : ℕ) (x : NodeRow) → row < length R → linksGood R row ≡ true → IsNode x (at R row) → Way b R (down b R row path) path row (x .child) 0
+  way-start path row x h g is = record { there = h; good = rw (is .child) (links-of R row g .0); own = is .child; same = refl }
 
   down-step : (r : ℕ) (path : List ℕ) (i : ℕ) → i < length path → down b R r (drop i path) ≡ across b R (length R) (at R r .firstChild) (head (drop i path)) (rest (drop i path))
   unfolding down
   down-step r path i h = rw (drop-cons path i 0 h)
 
-  module _ (goal : Outcome ℕ) (path : List ℕ) (row i : ℕ) (w : Way b R goal path row i) where
+  module _ (goal : Outcome ℕ) (path : List ℕ) (row link i : ℕ) (w : Way b R goal path row link i) where
     pub way-end : length path ≤ i → ok row ≡ goal
     unfolding down
     way-end h = sym (w .same ∙ rw (drop-of-length-le path h))
 
     module _ (h : i < length path) (end : ℕ) (e : NameEnd path i end) where
-      first-enough : Enough b R (length R) (at R row .firstChild)
+      first-enough : Enough b R (length R) link
       first-enough = (
         omega (arith, w .there),
-        λ other. ⊎-elim (λ same. absurd (other same)) (λ k. omega (arith, k .above)) (follows b R row (at R row .firstChild) (links-of R row (w .good) .0)),
+        λ other. ⊎-elim (λ same. absurd (other same)) (λ k. omega (arith, k .above)) (follows b R row link (w .good)),
       )
 
-      splits-here : goal ≡ (childOf b R row (part path i (end - i)) >>= λ c. down b R c (drop (end + 1) path))
-      unfolding childOf
+      splits-here : goal ≡ (childFrom b R (length R) link (part path i (end - i)) >>= λ c. down b R c (drop (end + 1) path))
       splits-here =
           w .same
           ∙ down-step row path i h
-          ∙ rw (e .first, e .later) (splits b R (length R) (at R row .firstChild) (led b R row (at R row .firstChild) (links-of R row (w .good) .0)) first-enough (part path i (end - i)) (drop (end + 1) path))
+          ∙ rw (← w .own, e .first, e .later) (splits b R (length R) link (led b R row link (w .good)) first-enough (part path i (end - i)) (drop (end + 1) path))
 
-      pub way-refused : (r : Refusal) → childOf b R row (part path i (end - i)) ≡ refused r → refused r ≡ goal
+      pub way-refused : (r : Refusal) → childFrom b R (length R) link (part path i (end - i)) ≡ refused r → refused r ≡ goal
       way-refused r f = sym (splits-here ∙ then-refused _ _ f)
 
-      pub way-down : (c : ℕ) → childOf b R row (part path i (end - i)) ≡ ok c → Way b R goal path c (end + 1)
-      unfolding childOf
-      way-down c f =
-          let good = found-good b R (length R) (at R row .firstChild) (part path i (end - i)) c (led b R row (at R row .firstChild) (links-of R row (w .good) .0)) f in
-          record { there = good .0; good = good .1; same = splits-here ∙ then-ok _ _ f refl }
+      pub way-down : (c l : ℕ) → childFrom b R (length R) link (part path i (end - i)) ≡ ok c → l ≡ at R c .firstChild → Way b R goal path c l (end + 1)
+      way-down c l f own =
+          let good = found-good b R (length R) link (part path i (end - i)) c (led b R row link (w .good)) f in
+          record { there = good .0; good = rw own (links-of R c (good .1) .0); own = own; same = splits-here ∙ then-ok _ _ f refl }
 
 -- ---- the children: `goal` is what the search answers
 
@@ -167,15 +168,8 @@ pub record Kid (b : List ℕ) (R : List rows.NodeRow) (goal : Outcome ℕ) (firs
   pub same : goal ≡ childFrom b R (suc turns) row first
 
 module _ (b : List ℕ) (R : List rows.NodeRow) where
-  pub kids-begin : (row : ℕ) (first : List ℕ) (x : NodeRow) → row < length R → linksGood R row ≡ true → IsNode x (at R row) → Kids b R (childOf b R row first) first row (x .child)
-  unfolding childOf
-  kids-begin row first x there good is = record {
-    turns = length R;
-    there = there;
-    enough = omega arith;
-    good = rw (is .child) (links-of R row good .0);
-    same = rw (is .child);
-  }
+  pub kids-begin : (row link : ℕ) (first : List ℕ) → row < length R → linkGood R row link ≡ true → Kids b R (childFrom b R (length R) link first) first row link
+  kids-begin row link first there good = record { turns = length R; there = there; enough = omega arith; good = good; same = refl }
 
   module _ (goal : Outcome ℕ) (first : List ℕ) where
     module _ (low link : ℕ) (x : Kids b R goal first low link) where
@@ -231,6 +225,20 @@ module _ (b : List ℕ) (R : List rows.NodeRow) where
         -- the links that are followed rise
         pub kid-less : ahead (length R) (node .next) < ahead (length R) row
         kid-less = fewer-ahead R row (node .next) (x .some) (x .there) next-good
+
+-- ---- what the search returns
+
+module _ (b : List ℕ) (R : List rows.NodeRow) (link : ℕ) (first : List ℕ) where
+  pub named-refused : (r : Refusal) (c : Child) → childOutcome c ≡ refused r → OwnLink R c → refused r ≡ childFrom b R (length R) link first → Named b R link first c
+  named-refused r c is own e = record { same = is ∙ e; own = own }
+
+  pub named-at : (row l : ℕ) → ok row ≡ childFrom b R (length R) link first → l ≡ at R row .firstChild → Named b R link first (At row l)
+  unfolding childOutcome OwnLink
+  named-at row l e own = record { same = e; own = own }
+
+  pub at-named : {r : Child} {row l : ℕ} → Named b R link first r → r ≡ At row l → (childFrom b R (length R) link first ≡ ok row) × (l ≡ at R row .firstChild)
+  unfolding childOutcome OwnLink
+  at-named n e = (sym (n .same) ∙ ap childOutcome e, rw e at (n .own))
 
 -- a link that leads to a row is some, and that row
 pub leads-there : (link row : ℕ) → leadsTo link row ≡ true → (link ≢ NONE) × (link ≡ row)

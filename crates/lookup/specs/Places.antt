@@ -12,9 +12,11 @@ use Rattle.format.specs.Format.{NONE, nodeWidth, propertyWidth}
 use Rattle.format.specs.Rows.{nodesIn}
 use Rattle.format.specs.Rows as rows
 use Rattle.format.specs.Find.{head, rest, same}
-use Rattle.format.specs.Lookup.{linksGood, nameInside, nameAt}
+use Rattle.format.specs.Lookup.{linkGood, linksGood, nameInside, nameAt}
 use Rattle.lookup.specs.declared.judge.NodeRow.{NodeRow}
 use Rattle.lookup.specs.declared.judge.PropRow.{PropRow}
+use Rattle.lookup.specs.declared.path.Child.{Child}
+use Rattle.lookup.specs.declared.path.Child.the-variants.{At, Nothing, Unusable}
 
 -- row r of a table
 unfoldable pub nodeAt : List ℕ → ℕ → rows.NodeRow
@@ -92,6 +94,24 @@ childFrom b R (suc turns) r first =
     then (if same (nameAt b R r) first then ok r else childFrom b R turns (rows.at R r .nextSibling) first)
     else refused notUsable)
 
--- the first child of row r of that name
-unfoldable pub childOf : List ℕ → List rows.NodeRow → ℕ → List ℕ → Outcome ℕ
-childOf b R r first = childFrom b R (length R) (rows.at R r .firstChild) first
+-- a good link of a row, in a table that has room for the rows counted
+pub record Linked (t : List ℕ) (count row link : ℕ) : Type 0 where
+  pub below : row < count
+  pub room : nodeWidth * count ≤ length t
+  pub good : linkGood (nodesIn count t) row link ≡ true
+
+unfoldable pub childOutcome : Child → Outcome ℕ
+childOutcome (At row first) = ok row
+childOutcome Nothing = refused nothingFound
+childOutcome Unusable = refused notUsable
+
+-- the link that comes with a child is its own
+unfoldable pub OwnLink : List rows.NodeRow → Child → Type 0
+OwnLink R (At row first) = first ≡ rows.at R row .firstChild
+OwnLink R Nothing = Unit {0}
+OwnLink R Unusable = Unit {0}
+
+-- the first of some children of that name
+pub record Named (b : List ℕ) (R : List rows.NodeRow) (link : ℕ) (first : List ℕ) (r : Child) : Type 0 where
+  pub same : childOutcome r ≡ childFrom b R (length R) link first
+  pub own : OwnLink R r

@@ -7,7 +7,7 @@ ghost use Rattle.format.specs.Rows.{nodesIn};
 ghost use Rattle.format.specs.Lookup.{down, find-from};
 ghost use Rattle.format.specs.Lookup as lookup;
 ghost use Rattle.lookup.specs.Answers.{foundNumbers, foundOutcome};
-ghost use Rattle.lookup.specs.Places.{Judged, Within, leadsTo, childOf};
+ghost use Rattle.lookup.specs.Places.{Judged, Linked, Within, Named, leadsTo};
 use crate::Found;
 use crate::judge::links_are_good;
 use crate::judge::node_at;
@@ -16,6 +16,13 @@ use crate::names::name_end;
 use crate::names::same_part;
 use loader::NODE_WIDTH;
 use loader::NONE;
+
+// A child that was found: its row, and the link to its own first child.
+enum Child {
+    At(usize, u32),
+    Nothing,
+    Unusable,
+}
 
 // Whether the link leads to that row.
 fn leads_to(link: u32, row: usize) -> bool
@@ -27,26 +34,26 @@ fn leads_to(link: u32, row: usize) -> bool
     link as usize == row
 }
 
-// The first child of a judged row that is named as the path from at up to end. Siblings often stand equally far apart: the inner loop
+// The first of the children, whose first is `first`, that is named as the path from at up to end. Siblings often stand equally far apart: the inner loop
 // goes on to where the next one then is, so that the processor need not wait for the link, which is read and compared all the same.
 fn child_named(
     s: &[u8],
     nodes: &[u32],
     count: usize,
     parent: usize,
+    first: u32,
     path: &[u8],
     at: usize,
     end: usize,
-) -> Found
-    requires { ⌜ Judged (now nodes) count parent × Within (now path) at end ⌝ }
-    ensures { λ r. ⌜ foundOutcome r ≡ childOf (now (s .entry)) (nodesIn count (now (nodes .entry))) parent (part (now (path .entry)) at (end - at)) ⌝ }
+) -> Child
+    requires { ⌜ Linked (now nodes) count parent first × Within (now path) at end ⌝ }
+    ensures { λ r. ⌜ Named (now (s .entry)) (nodesIn count (now (nodes .entry))) first (part (now (path .entry)) at (end - at)) r ⌝ }
 {
-    let own = node_at(nodes, parent);
-    let mut link = own.child;
+    let mut link = first;
     let mut before = parent;
-    let child = 'children: loop {
+    'children: loop {
         if link == NONE {
-            return Found::Nothing;
+            return Child::Nothing;
         }
         let mut row = link as usize;
         let step = row - before;
@@ -54,10 +61,10 @@ fn child_named(
             let guess = row + step;
             let node = node_at(nodes, row);
             if !row_is_good(node, row, count, s.len()) {
-                return Found::Unusable;
+                return Child::Unusable;
             }
             if same_part(s, node.name, node.len, path, at, end) {
-                break 'children row;
+                break 'children Child::At(row, node.child);
             }
             link = node.next;
             before = row;
@@ -66,8 +73,7 @@ fn child_named(
             }
             row = guess;
         }
-    };
-    Found::Row(child)
+    }
 }
 
 // The path from a row that has been judged.
@@ -75,15 +81,20 @@ fn walk(s: &[u8], nodes: &[u32], count: usize, from: usize, path: &[u8]) -> Foun
     requires { ⌜ Judged (now nodes) count from ⌝ }
     ensures { λ r. ⌜ foundOutcome r ≡ down (now (s .entry)) (nodesIn count (now (nodes .entry))) from (now (path .entry)) ⌝ }
 {
+    let own = node_at(nodes, from);
+    let mut first = own.child;
     let mut row = from;
     let mut at = 0;
     while at < path.len() {
         let end = name_end(path, at);
-        row = match child_named(s, nodes, count, row, path, at, end) {
-            Found::Row(child) => child,
-            Found::Nothing => return Found::Nothing,
-            Found::Unusable => return Found::Unusable,
-        };
+        match child_named(s, nodes, count, row, first, path, at, end) {
+            Child::At(child, link) => {
+                row = child;
+                first = link;
+            }
+            Child::Nothing => return Found::Nothing,
+            Child::Unusable => return Found::Unusable,
+        }
         if path.len() <= end {
             return Found::Row(row);
         }

@@ -1,5 +1,5 @@
 -- What the digits, numbers and byte strings of a field come to, one step at a time. Assumes nothing.
-use Prim.Native.Nat.{ℕ, suc, _+_, _*_, _^_, _-_, _%_, _≤_, _<_}
+use Prim.Native.Nat.{ℕ, suc, _+_, _*_, _^_, _-_, _/_, _%_, _≤_, _<_}
 use native.Mathlib.Omega.{arith}
 use native.Mathlib.Numerals.{add-one}
 use mathlib.Core.Path.{_≡_, refl, ap, _∙_, sym}
@@ -8,7 +8,9 @@ use mathlib.Core.Option.{Option, none, some}
 use borrow.Author.Tests.{lt-ltb, le-ltb, le-leb, lt-leb, eq-eqb, ne-eqb}
 use lib.ListN.{length, take, drop, getD, set, length-drop, drop-of-length-le}
 use lib.Seq.{drop-cons, take-all, take-suc, take-suc-set}
-use Rattle.queries.specs.Fields.{digitOf, firstOf, restOf, numberFrom, numberOf, before, pairsOf, bytesOf}
+use Rattle.format.specs.Answer.{orZero}
+use Rattle.format.specs.Read.{read-be-u32}
+use Rattle.queries.specs.Fields.{digitOf, firstOf, restOf, numberFrom, numberOf, before, pairsOf, bytesOf, wordsIn, gathered, gatheredOf, wordsOf}
 use Rattle.queries.specs.declared.fields.Number.the-variants as number
 
 -- ---- digits
@@ -181,6 +183,38 @@ module _ (room : ℕ) (s : List ℕ) where
   unfolding bytesOf
   bytes-pairs p q r =
       simp (ne-eqb (length s) 0 (λ e. omega arith), ne-eqb (length s) 1 (λ e. omega arith), ne-eqb (length s % 2) 1 q, le-ltb (room * 2) (length s) r)
+
+-- ---- words
+
+module _ (room : ℕ) (b : List ℕ) where
+  pub gather-odd : (length b % 4 ≡ 0 → ⊥) → gathered room b ≡ none
+  unfolding gathered
+  gather-odd p = simp (ne-eqb (length b % 4) 0 p)
+
+  pub gather-long : length b % 4 ≡ 0 → room < length b / 4 → gathered room b ≡ none
+  unfolding gathered
+  gather-long p q = simp (eq-eqb (length b % 4) 0 p, lt-leb (length b / 4) room q)
+
+  pub gather-all :
+      (out : List ℕ) (n : ℕ) → length b % 4 ≡ 0 → length b / 4 ≤ room → n ≡ length b / 4 → take n out ≡ wordsIn n b →
+      gathered room b ≡ some (take (length b / 4) out)
+  unfolding gathered
+  gather-all out n p q e h = simp (eq-eqb (length b % 4) 0 p, le-leb (length b / 4) room q) (ap some (sym (rw e at h)))
+
+-- one word more is put
+pub word-step :
+    (b out : List ℕ) (i x : ℕ) → i < length out → take i out ≡ wordsIn i b → x ≡ orZero (read-be-u32 b (i * 4)) →
+    take (i + 1) (set out i x) ≡ wordsIn (i + 1) b
+unfolding wordsIn
+word-step b out i x h p q = rw (add-one i, take-suc-set out i x h, p, q)
+
+pub words-none : (room : ℕ) (s : List ℕ) → bytesOf 14336 s ≡ none → wordsOf room s ≡ none
+unfolding wordsOf gatheredOf
+words-none room s p = rw p
+
+pub words-some : (room : ℕ) (s b : List ℕ) → bytesOf 14336 s ≡ some b → wordsOf room s ≡ gathered room b
+unfolding wordsOf gatheredOf
+words-some room s b p = rw p
 
 -- ---- a field
 

@@ -1,7 +1,7 @@
 -- What a line is answered, by what its fields spell: 16 where one is bad, and the reader's numbers otherwise. Assumes nothing.
 use Prim.Native.Nat.{ℕ, _-_, _≤_, _<_}
 use native.Mathlib.Omega.{arith}
-use mathlib.Core.Path.{_≡_, refl}
+use mathlib.Core.Path.{_≡_, refl, ap, sym, _∙_}
 use mathlib.Core.List.{List, [], _∷_}
 use mathlib.Core.Option.{Option, none, some}
 use borrow.Author.Tests.{lt-ltb, le-ltb, eq-eqb, ne-eqb}
@@ -10,6 +10,7 @@ use Rattle.format.specs.Answer.{numbers, nothing}
 use Rattle.format.specs.Read.{utf8Check}
 use Rattle.queries.specs.Fields.{firstOf, restOf, numberOf, bytesOf, Put}
 use Rattle.queries.specs.Replies.{withNumber, withBytes, numbersReply, positionReply, boundedReply, part, subsliceReply, utf8Reply, letterReply, reply}
+use Rattle.queries.specs.declared.fields.Number.{Number}
 use Rattle.queries.specs.declared.fields.Number.the-variants as number
 use Rattle.queries.specs.declared.fields.Count.{Count}
 use Rattle.queries.specs.declared.fields.Count.the-variants as count
@@ -26,6 +27,11 @@ put-bad r m out e h = rw e at h
 pub put-is : (r : Count) (m : Option (List ℕ)) (out : List ℕ) (n : ℕ) → r ≡ count.Is n → Put r m out → m ≡ some (take n out)
 unfolding Put
 put-is r m out n e h = (rw e at h) .1
+
+-- ---- a number that was read
+
+pub spells : (x y : List ℕ) (r n : Number) → x ≡ y → r ≡ numberOf x → r ≡ n → numberOf y ≡ n
+spells x y r n p q e = ap numberOf (sym p) ∙ sym q ∙ e
 
 -- ---- two numbers
 

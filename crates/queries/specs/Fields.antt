@@ -1,11 +1,13 @@
 -- What a field of a query line spells: a number in decimal digits, or bytes in hexadecimal digits. Assumes nothing.
-use Prim.Native.Nat.{ℕ, suc, _+_, _*_, _-_, _%_, _^_, _≤_, _<_}
+use Prim.Native.Nat.{ℕ, zero, suc, _+_, _*_, _-_, _/_, _%_, _^_, _≤_, _<_}
 use mathlib.Core.Path.{_≡_}
 use mathlib.Core.Bool.{Bool, cond, true, false}
 use mathlib.Core.List.{List, [], _∷_, _++_}
 use mathlib.Core.Option.{Option, none, some}
 use lib.Dec.{eqb, leb, ltb}
 use lib.ListN.{length, take, drop, getD}
+use Rattle.format.specs.Answer.{orZero}
+use Rattle.format.specs.Read.{read-be-u32}
 use Rattle.queries.specs.declared.fields.Number.{Number}
 use Rattle.queries.specs.declared.fields.Number.the-variants as number
 use Rattle.queries.specs.declared.fields.Count.{Count}
@@ -72,3 +74,20 @@ bytesOf room s =
     (cond (eqb (length s) 1)
     (cond (eqb (getD s 0 0) 45) (some []) none)
     (cond (eqb (length s % 2) 1) none (cond (ltb (room * 2) (length s)) none (pairsOf s))))
+
+-- the first n words of bytes
+unfoldable pub wordsIn : ℕ → List ℕ → List ℕ
+wordsIn zero b = []
+wordsIn (suc n) b = wordsIn n b ++ (orZero (read-be-u32 b (n * 4)) ∷ [])
+
+-- the bytes as words of four, no more than there is room for
+unfoldable pub gathered : ℕ → List ℕ → Option (List ℕ)
+gathered room b = cond (eqb (length b % 4) 0) (cond (leb (length b / 4) room) (some (wordsIn (length b / 4) b)) none) none
+
+unfoldable pub gatheredOf : ℕ → Option (List ℕ) → Option (List ℕ)
+gatheredOf room none = none
+gatheredOf room (some b) = gathered room b
+
+-- "hex words of 8 digits, row after row", of which the largest table has 3,584
+unfoldable pub wordsOf : ℕ → List ℕ → Option (List ℕ)
+wordsOf room s = gatheredOf room (bytesOf 14336 s)

@@ -22,6 +22,10 @@ answerNumbers (answer.Value n) = 0 ∷ n ∷ []
 answerNumbers (answer.Part start len) = 0 ∷ start ∷ len ∷ []
 answerNumbers answer.Short = 3 ∷ []
 answerNumbers answer.NotUtf8 = 5 ∷ []
+answerNumbers answer.Nothing = 11 ∷ []
+answerNumbers answer.Missing0 = 12 ∷ []
+answerNumbers answer.TooShort = 13 ∷ []
+answerNumbers answer.Unusable = 15 ∷ []
 answerNumbers answer.BadLine = 16 ∷ []
 
 -- go on where a field spells something

@@ -1,12 +1,15 @@
--- The tables of a load: what they hold before it, and the rows of them that it used. Assumes nothing.
+-- What a load is answered: its refusals, and the rows of the tables that it used. Assumes nothing.
 use Prim.Native.Nat.{ℕ, _*_, _≤_}
-use mathlib.Core.List.{List}
-use lib.ListN.{length, replicate}
+use mathlib.Core.List.{List, [], _∷_}
+use lib.ListN.{length}
 use Rattle.loader.specs.declared.DeviceTree.{DeviceTree}
+use Rattle.queries.specs.declared.loads.Refusal.{Refusal}
+use Rattle.queries.specs.declared.loads.Refusal.the-variants as refusal
 
--- "tables whose every number is 7 beforehand"
-unfoldable pub sevens : List ℕ → List ℕ
-sevens table = replicate (length table) 7
+-- a refusal by document 01's numbers
+unfoldable pub refusalText : Refusal → List ℕ
+refusalText (refusal.Plain code) = code ∷ []
+refusalText (refusal.Carries code n) = code ∷ n ∷ []
 
 -- the rows that a load counted stand in its tables, of 2, 7 and 4 numbers each
 pub record Used (tree : DeviceTree) (reserved nodes props : List ℕ) : Type 0 where

@@ -2,7 +2,7 @@
 ghost use Prim.Native.Nat.{_≤_, _<_, _+_, _*_, _%_};
 ghost use mathlib.Core.Path.{_≡_};
 ghost use lib.ListN.{length, take};
-ghost use Rattle.queries.specs.Fields.{Ends, firstOf, restOf, digitOf, numberOf, pairsOf, bytesOf, Put};
+ghost use Rattle.queries.specs.Fields.{Ends, firstOf, restOf, digitOf, numberOf, pairsOf, bytesOf, gathered, wordsOf, Put};
 
 // A number of 64 bits.
 pub enum Number {
@@ -16,8 +16,19 @@ pub enum Count {
     Bad,
 }
 
+// How many bytes a path and a name have.
+pub enum Names {
+    Are { path: usize, name: usize },
+    Bad,
+}
+
 // The most digits that a number may have.
 const DIGITS: usize = 20;
+
+// How many bytes a word has, and the largest table.
+const WORD_BYTES: usize = 4;
+
+const TABLE_BYTES: usize = 14336;
 
 // Where the first field of s ends: at its first space, or where s ends.
 fn end(s: &[u8]) -> usize
@@ -59,6 +70,22 @@ pub(crate) fn rest(s: &[u8]) -> &[u8]
         return &s[end..];
     }
     &s[end + 1..]
+}
+
+// What follows the first two fields of s.
+pub(crate) fn after_two(s: &[u8]) -> &[u8]
+    ensures { λ r. ⌜ now r ≡ restOf (restOf (now (s .entry))) ⌝ }
+{
+    rest(rest(s))
+}
+
+// The letter of a line, its first field; a space where that is not one byte.
+pub(crate) fn letter(s: &[u8]) -> u8 {
+    let field = first(s);
+    if field.len() != 1 {
+        return b' ';
+    }
+    field[0]
 }
 
 // The value of a hexadecimal digit of either case, 16 for any other byte.
@@ -155,4 +182,45 @@ pub(crate) fn bytes(s: &[u8], out: &mut [u8]) -> Count
         return Count::Bad;
     }
     pairs(s, out)
+}
+
+// PATH NAME, the last fields of a line, each put at the start of its room.
+pub(crate) fn path_and_name(s: &[u8], path: &mut [u8], name: &mut [u8]) -> Names {
+    match bytes(first(s), path) {
+        Count::Bad => Names::Bad,
+        Count::Is(path) => match bytes(rest(s), name) {
+            Count::Bad => Names::Bad,
+            Count::Is(name) => Names::Are { path, name },
+        },
+    }
+}
+
+// The words that bytes hold, four bytes each, put at the start of out.
+fn gather(s: &[u8], out: &mut [u32]) -> Count
+    ensures { λ r. ⌜ Put r (gathered (length (now (out .entry))) (now (s .entry))) (now (out .exit)) ⌝ }
+{
+    if s.len() % WORD_BYTES != 0 {
+        return Count::Bad;
+    }
+    let count = s.len() / WORD_BYTES;
+    if out.len() < count {
+        return Count::Bad;
+    }
+    let mut i = 0;
+    while i < count {
+        out[i] = reader::word_at(s, i * WORD_BYTES);
+        i += 1;
+    }
+    Count::Is(count)
+}
+
+// The words that a field spells, of 8 digits each, put at the start of out: no more than out has room for.
+pub(crate) fn words(s: &[u8], out: &mut [u32]) -> Count
+    ensures { λ r. ⌜ Put r (wordsOf (length (now (out .entry))) (now (s .entry))) (now (out .exit)) ⌝ }
+{
+    let mut room = [0u8; TABLE_BYTES];
+    match bytes(s, &mut room) {
+        Count::Bad => Count::Bad,
+        Count::Is(len) => gather(upto(&room, len), out),
+    }
 }

@@ -22,9 +22,13 @@ pub enum Answer {
     Done,
     Value(u64),
     Part { start: usize, len: usize },
-    // 3, 5 and 16.
+    // 3, 5, 11, 12, 13, 15 and 16.
     Short,
     NotUtf8,
+    Nothing,
+    Missing0,
+    TooShort,
+    Unusable,
     BadLine,
 }
 

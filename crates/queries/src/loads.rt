@@ -1,15 +1,20 @@
-// The letter T: a blob is loaded into tables of sevens, and the answer has parts: load's answer, then the used rows.
+// The letter T: a blob is loaded into tables of sevens. The answer has parts: load's answer, the used rows, and what a path and
+// a name find in them.
 ghost use mathlib.Core.Path.{_≡_};
-ghost use lib.ListN.{length, getD};
 ghost use Rattle.format.specs.Answer.{refusalNumbers};
-ghost use Rattle.format.specs.Load.{Loads};
 ghost use Rattle.loader.specs.Check.{whyOf};
-ghost use Rattle.loader.specs.Survey.{loadedNumbers, lent};
 ghost use Rattle.queries.specs.Buffers.{Room};
-ghost use Rattle.queries.specs.Tables.{sevens, Used};
+ghost use Rattle.queries.specs.Tables.{Used, refusalText};
+use crate::BYTES;
+use crate::NAME;
+use crate::NODES;
+use crate::PROPERTIES;
+use crate::RESERVATIONS;
 use crate::fields;
 use crate::fields::Count;
+use crate::fields::Names;
 use crate::letters::Answer;
+use crate::lookups;
 use crate::output;
 use crate::output::Output;
 use crate::rows;
@@ -20,128 +25,86 @@ use loader::NODE_WIDTH;
 use loader::PROPERTY_WIDTH;
 use loader::RESERVATION_WIDTH;
 
-// What every number of the tables is before a load.
-const BEFORE: u32 = 7;
-
-// What the fields of a line spell, by its lengths.
-enum Asked {
-    Load {
-        blob: usize,
-        path: usize,
-        name: usize,
-    },
-    Bad,
+// A refusal by its number: alone, or with what it carries.
+enum Refusal {
+    Plain(u64),
+    Carries { code: u64, n: usize },
 }
 
-// Whether a line's first field is the letter.
-pub(crate) fn asks(line: &[u8]) -> bool {
-    let letter = fields::first(line);
-    if letter.len() != 1 {
-        return false;
-    }
-    letter[0] == b'T'
-}
-
-// T BLOB PATH NAME. The load's tables are lent, and so is the room for the three byte strings.
-pub(crate) fn answer(
-    line: &[u8],
-    out: Output,
-    bytes: &mut [u8],
-    path: &mut [u8],
-    name: &mut [u8],
-    reserved: &mut [u64],
-    nodes: &mut [u32],
-    props: &mut [u32],
-    text: &mut [u8],
-) -> Output
+// BLOB PATH NAME
+pub(crate) fn answer(s: &[u8], out: Output, text: &mut [u8]) -> Output
     requires { ⌜ Room out (now text) ⌝ }
     ensures { λ r. ⌜ Room r (now (text .exit)) ⌝ }
 {
-    match blob_path_name(fields::rest(line), bytes, path, name) {
-        Asked::Bad => output::put(text, out, Answer::BadLine),
-        Asked::Load {
-            blob,
-            path: _,
-            name: _,
-        } => tell(fields::upto(bytes, blob), out, reserved, nodes, props, text),
+    let mut bytes = [0u8; BYTES];
+    match fields::bytes(fields::first(s), &mut bytes) {
+        Count::Bad => output::put(text, out, Answer::BadLine),
+        Count::Is(len) => of_blob(fields::upto(&bytes, len), fields::rest(s), out, text),
     }
 }
 
-// The load's answer, and what follows it where it is 0.
-fn tell(
-    b: &[u8],
-    out: Output,
-    reserved: &mut [u64],
-    nodes: &mut [u32],
-    props: &mut [u32],
-    text: &mut [u8],
-) -> Output
+// PATH NAME, of a blob.
+fn of_blob(b: &[u8], s: &[u8], out: Output, text: &mut [u8]) -> Output
     requires { ⌜ Room out (now text) ⌝ }
     ensures { λ r. ⌜ Room r (now (text .exit)) ⌝ }
 {
-    match load(b, reserved, nodes, props) {
+    let mut path = [0u8; NAME];
+    let mut name = [0u8; NAME];
+    match fields::path_and_name(s, &mut path, &mut name) {
+        Names::Bad => output::put(text, out, Answer::BadLine),
+        Names::Are { path: m, name: n } => {
+            let path = fields::upto(&path, m);
+            let name = fields::upto(&name, n);
+            tell(b, path, name, out, text)
+        }
+    }
+}
+
+// The answer of a load into tables whose every number is 7, and what follows it where it is 0.
+fn tell(b: &[u8], path: &[u8], name: &[u8], out: Output, text: &mut [u8]) -> Output
+    requires { ⌜ Room out (now text) ⌝ }
+    ensures { λ r. ⌜ Room r (now (text .exit)) ⌝ }
+{
+    let mut reserved = [7u64; RESERVATIONS];
+    let mut nodes = [7u32; NODES];
+    let mut props = [7u32; PROPERTIES];
+    match loader::load(b, &mut reserved, &mut nodes, &mut props) {
         Loaded::Refused(why) => put_refusal(text, out, why),
-        Loaded::Tree(tree) => put_loaded(text, out, tree, reserved, nodes, props),
+        Loaded::Tree(tree) => {
+            let told = put_loaded(text, out, tree, &reserved, &nodes, &props);
+            lookups::put_found(text, told, b, &nodes, &props, tree, path, name)
+        }
     }
 }
 
-// BLOB PATH NAME, each put at the start of its room.
-fn blob_path_name(s: &[u8], bytes: &mut [u8], path: &mut [u8], name: &mut [u8]) -> Asked {
-    let names = fields::rest(s);
-    match fields::bytes(fields::first(s), bytes) {
-        Count::Bad => Asked::Bad,
-        Count::Is(blob) => match fields::bytes(fields::first(names), path) {
-            Count::Bad => Asked::Bad,
-            Count::Is(path) => match fields::bytes(fields::rest(names), name) {
-                Count::Bad => Asked::Bad,
-                Count::Is(name) => Asked::Load { blob, path, name },
-            },
-        },
-    }
-}
-
-// A load into tables of sevens.
-fn load(b: &[u8], reserved: &mut [u64], nodes: &mut [u32], props: &mut [u32]) -> Loaded
-    ensures { λ r. ⌜ Loads (lent (sevens (now (reserved .entry))) (sevens (now (nodes .entry))) (sevens (now (props .entry)))) (now (b .entry)) (loadedNumbers r)
-        (lent (now (reserved .exit)) (now (nodes .exit)) (now (props .exit))) ⌝ }
-{
-    rows::fill_longs(reserved, BEFORE as u64);
-    rows::fill_words(nodes, BEFORE);
-    rows::fill_words(props, BEFORE);
-    loader::load(b, reserved, nodes, props)
-}
-
-// A refusal's number.
-fn code(why: DeviceTreeError) -> u64
-    ensures { λ r. ⌜ r ≡ getD (refusalNumbers (whyOf why)) 0 0 ⌝ }
+// A refusal's number, and the position or the rows that it carries.
+fn refusal_of(why: DeviceTreeError) -> Refusal
+    ensures { λ r. ⌜ refusalText r ≡ refusalNumbers (whyOf why) ⌝ }
 {
     match why {
-        DeviceTreeError::InvalidMagicNumber => 1,
-        DeviceTreeError::SizeMismatch => 2,
-        DeviceTreeError::UnexpectedEndOfInput => 3,
-        DeviceTreeError::ParseError(_) => 4,
-        DeviceTreeError::Utf8Error => 5,
-        DeviceTreeError::VersionNotSupported => 6,
-        DeviceTreeError::TooDeep(_) => 7,
-        DeviceTreeError::ReservationRoom(_) => 8,
-        DeviceTreeError::NodeRoom(_) => 9,
-        DeviceTreeError::PropertyRoom(_) => 10,
+        DeviceTreeError::InvalidMagicNumber => Refusal::Plain(1),
+        DeviceTreeError::SizeMismatch => Refusal::Plain(2),
+        DeviceTreeError::UnexpectedEndOfInput => Refusal::Plain(3),
+        DeviceTreeError::ParseError(pos) => Refusal::Carries { code: 4, n: pos },
+        DeviceTreeError::Utf8Error => Refusal::Plain(5),
+        DeviceTreeError::VersionNotSupported => Refusal::Plain(6),
+        DeviceTreeError::TooDeep(pos) => Refusal::Carries { code: 7, n: pos },
+        DeviceTreeError::ReservationRoom(n) => Refusal::Carries { code: 8, n },
+        DeviceTreeError::NodeRoom(n) => Refusal::Carries { code: 9, n },
+        DeviceTreeError::PropertyRoom(n) => Refusal::Carries { code: 10, n },
     }
 }
 
-// A refusal: its number, then the position or the rows that it carries.
 fn put_refusal(text: &mut [u8], out: Output, why: DeviceTreeError) -> Output
     requires { ⌜ Room out (now text) ⌝ }
     ensures { λ r. ⌜ Room r (now (text .exit)) ⌝ }
 {
-    let begun = output::number(text, out, code(why));
-    match why {
-        DeviceTreeError::ParseError(pos) => output::value(text, begun, pos as u64),
-        DeviceTreeError::TooDeep(pos) => output::value(text, begun, pos as u64),
-        DeviceTreeError::ReservationRoom(n) => output::value(text, begun, n as u64),
-        DeviceTreeError::NodeRoom(n) => output::value(text, begun, n as u64),
-        DeviceTreeError::PropertyRoom(n) => output::value(text, begun, n as u64),
-        _ => begun,
+    match refusal_of(why) {
+        Refusal::Plain(code) => output::number(text, out, code),
+        Refusal::Carries { code, n } => {
+            let begun = output::number(text, out, code);
+            output::value(text, begun, n as u64)
+        }
     }
 }
 

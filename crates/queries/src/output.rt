@@ -104,6 +104,10 @@ fn code(answer: Answer) -> u64
         Answer::Part { start: _, len: _ } => 0,
         Answer::Short => 3,
         Answer::NotUtf8 => 5,
+        Answer::Nothing => 11,
+        Answer::Missing0 => 12,
+        Answer::TooShort => 13,
+        Answer::Unusable => 15,
         Answer::BadLine => 16,
     }
 }
@@ -122,4 +126,13 @@ pub(crate) fn put(text: &mut [u8], out: Output, answer: Answer) -> Output
         }
         _ => begun,
     }
+}
+
+// An answer as a part that follows others.
+pub(crate) fn further(text: &mut [u8], out: Output, answer: Answer) -> Output
+    requires { ⌜ Room out (now text) ⌝ }
+    ensures { λ r. ⌜ Room r (now (text .exit)) ⌝ }
+{
+    let begun = part(text, out);
+    put(text, begun, answer)
 }

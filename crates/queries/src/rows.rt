@@ -1,30 +1,19 @@
-// The numbers of tables: set before a load, and as text.
+// The numbers of tables, and as text.
 ghost use Prim.Native.Nat.{_≤_};
 ghost use mathlib.Core.Path.{_≡_};
-ghost use lib.ListN.{length, replicate};
+ghost use lib.ListN.{length, take};
 ghost use Rattle.queries.specs.Buffers.{Room};
 use crate::output;
 use crate::output::Output;
 
-// Every number of a table is n.
-pub(crate) fn fill_longs(table: &mut [u64], n: u64)
-    ensures { λ r. ⌜ now (table .exit) ≡ replicate (length (now (table .entry))) n ⌝ }
+// The first n numbers of a table, or all of them where it has fewer.
+pub(crate) fn upto(table: &[u32], n: usize) -> &[u32]
+    ensures { λ r. ⌜ now r ≡ take n (now (table .entry)) ⌝ }
 {
-    let mut i = 0;
-    while i < table.len() {
-        table[i] = n;
-        i += 1;
+    if table.len() < n {
+        return table;
     }
-}
-
-pub(crate) fn fill_words(table: &mut [u32], n: u32)
-    ensures { λ r. ⌜ now (table .exit) ≡ replicate (length (now (table .entry))) n ⌝ }
-{
-    let mut i = 0;
-    while i < table.len() {
-        table[i] = n;
-        i += 1;
-    }
+    &table[..n]
 }
 
 // All numbers of a table, by single spaces; `-` where there are none.

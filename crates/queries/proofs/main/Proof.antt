@@ -8,15 +8,11 @@ use Rattle.queries.proofs.main.Statement.{statement}
 use Rattle.queries.proofs.main.Tie as tie
 
 abbrev Inv-loop : tie.InvT-loop
-Inv-loop input₀ line₀ bytes₀ path₀ name₀ reserved₀ nodes₀ props₀ text₀ state₀ turns₀ input line bytes path name reserved nodes props text state turns =
-    ((65536 ≡ length input) × (66000 ≡ length line))
-    × ((8192 ≡ length bytes) × (1024 ≡ length path) × (1024 ≡ length name))
-    × ((128 ≡ length reserved) × (3584 ≡ length nodes) × (2048 ≡ length props))
-    × (4096 ≡ length text)
-    × Within state line text
+Inv-loop input₀ line₀ text₀ state₀ turns₀ input line text state turns =
+    ((65536 ≡ length input) × (66000 ≡ length line) × (4096 ≡ length text)) × Within state line text
 
 abbrev μ-loop : tie.MeasureT-loop
-μ-loop input₀ line₀ bytes₀ path₀ name₀ reserved₀ nodes₀ props₀ text₀ state₀ turns₀ input line bytes path name reserved nodes props text state turns = turns
+μ-loop input₀ line₀ text₀ state₀ turns₀ input line text state turns = turns
 
 pub main-spec : {M : Type 1} → statement M
 main-spec =
@@ -29,24 +25,12 @@ main-spec =
     (λ c. search needs)
     (λ c. search needs)
     (λ c. search needs)
-    (λ c. search needs)
-    (λ c. search needs)
-    (λ c. search needs)
-    (λ c. search needs)
-    (λ c. search needs)
-    (λ c. search needs)
     (λ c κs. search needs)
     (λ c. search needs)
     (λ c. search needs)
     (λ c. search needs)
     (λ c. search needs)
     (λ c κs. search needs)
-    (λ c. search needs)
-    (λ c. search needs)
-    (λ c. search needs)
-    (λ c. search needs)
-    (λ c. search needs)
-    (λ c. search needs)
     (λ c. search needs)
     (λ c κs. search needs)
     (λ c. search needs)

@@ -5,47 +5,55 @@ use native.Mathlib.Omega.{arith}
 use mathlib.Core.Path.{_≡_, _∙_, sym, ap}
 use Prim.Native.Nat.{_-_}
 use lib.ListN.{length}
+use Rattle.format.specs.Format.{nodeWidth}
 use Rattle.format.specs.Rows.{nodesIn}
 use Rattle.format.specs.Lookup.{down}
 use Rattle.lookup.specs.Answers.{foundOutcome}
-use Rattle.lookup.proofs.RowLaws.{nodes-length}
-use Rattle.lookup.proofs.PathLaws.{Way, way-start, way-end, way-refused, way-down}
+use Rattle.lookup.specs.Places.{childOutcome}
+use Rattle.lookup.proofs.RowLaws.{nodes-length, node-read}
+use Rattle.lookup.proofs.PathLaws.{Way, way-start, way-end, way-refused, way-down, at-named}
 use Rattle.lookup.proofs.path.walk.Statement.{statement}
 use Rattle.lookup.proofs.path.walk.Tie as tie
 
 abbrev Inv-loop : tie.InvT-loop
-Inv-loop s nodes count from path row₀ at₀ row at = Way s (nodesIn count nodes) (down s (nodesIn count nodes) from path) path row at
+Inv-loop s nodes count from path first₀ row₀ at₀ first row at = Way s (nodesIn count nodes) (down s (nodesIn count nodes) from path) path row first at
 
 abbrev μ-loop : tie.MeasureT-loop
-μ-loop s nodes count from path row₀ at₀ row at = length path - at
+μ-loop s nodes count from path first₀ row₀ at₀ first row at = length path - at
+
+node-at-requires : tie.Need-node-at-requires Inv-loop μ-loop
+unfolding nodeWidth
+node-at-requires c κs =
+    let st = c .before .before .before in
+    omega (arith, st .pre .below, st .pre .room)
 
 loop-holds : tie.Need-loop-holds Inv-loop μ-loop
 loop-holds c =
-    let st = c .before .before .before in
-    way-start _ _ _ _ (rw nodes-length (st .pre .below)) (st .pre .good)
+    let st = c .before .before .before .before in
+    way-start _ _ _ _ _ (rw nodes-length (st .pre .below)) (st .pre .good) (node-read _ _ _ _ (st .pre .below) (c .node-at .ensures))
 
 child-named-requires : tie.Need-child-named-requires Inv-loop μ-loop
 child-named-requires c κs =
     let turn = c .before in
     let lo = turn .before in
-    let st = lo .before .before .before .before in (
+    let st = lo .before .before .before .before .before in (
       record { below = rw nodes-length at (lo .loop .inv .there); room = st .pre .room; good = lo .loop .inv .good },
       record { order = c .name-end .ensures .low; inside = c .name-end .ensures .high (omega (arith, turn .loop-test .taken)) },
     )
 
 returns : tie.Need-returns Inv-loop μ-loop
-unfolding foundOutcome
+unfolding foundOutcome childOutcome
 returns c =
     let call = c .before .before in
     let turn = call .before .before in
-    way-refused _ _ _ _ _ _ (turn .before .loop .inv) (turn .loop-test .taken) _ (call .before .name-end .ensures) _ (sym (call .child-named .ensures) ∙ ap foundOutcome (c .enum-told .given .1))
+    way-refused _ _ _ _ _ _ _ (turn .before .loop .inv) (turn .loop-test .taken) _ (call .before .name-end .ensures) _ (sym (call .child-named .ensures .same) ∙ ap childOutcome (c .enum-told .given .1))
 
 returns-2 : tie.Need-returns-2 Inv-loop μ-loop
-unfolding foundOutcome
+unfolding foundOutcome childOutcome
 returns-2 c =
     let call = c .before .before in
     let turn = call .before .before in
-    way-refused _ _ _ _ _ _ (turn .before .loop .inv) (turn .loop-test .taken) _ (call .before .name-end .ensures) _ (sym (call .child-named .ensures) ∙ ap foundOutcome (c .enum-told2 .given .1))
+    way-refused _ _ _ _ _ _ _ (turn .before .loop .inv) (turn .loop-test .taken) _ (call .before .name-end .ensures) _ (sym (call .child-named .ensures .same) ∙ ap childOutcome (c .enum-told2 .given .1))
 
 returns-3 : tie.Need-returns-3 Inv-loop μ-loop
 unfolding foundOutcome
@@ -53,11 +61,9 @@ returns-3 c =
     let told = c .before .before in
     let call = told .before .before in
     let turn = call .before .before in
-    let way = way-down _ _ _ _ _ _ (turn .before .loop .inv) (turn .loop-test .taken) _ (call .before .name-end .ensures) _ (sym (call .child-named .ensures) ∙ ap foundOutcome (told .child .given .1)) in
-    way-end _ _ _ _ _ _ way (omega (arith, c .if1 .taken))
-
-add-at : tie.Need-add-at Inv-loop μ-loop
-add-at c = search needs
+    let is = at-named _ _ _ _ (call .child-named .ensures) (told .child .given .1) in
+    let way = way-down _ _ _ _ _ _ _ (turn .before .loop .inv) (turn .loop-test .taken) _ (call .before .name-end .ensures) _ _ (is .0) (is .1) in
+    way-end _ _ _ _ _ _ _ way (omega (arith, c .if1 .taken))
 
 loop-less : tie.Need-loop-less Inv-loop μ-loop
 loop-less c =
@@ -65,16 +71,16 @@ loop-less c =
     omega (arith, c .if1 .left, ne .name-end .ensures .low, ne .before .loop-test .taken)
 
 loop-again : tie.Need-loop-again Inv-loop μ-loop
-unfolding foundOutcome
 loop-again c =
     let told = c .before .before in
     let call = told .before .before in
     let turn = call .before .before in
-    way-down _ _ _ _ _ _ (turn .before .loop .inv) (turn .loop-test .taken) _ (call .before .name-end .ensures) _ (sym (call .child-named .ensures) ∙ ap foundOutcome (told .child .given .1))
+    let is = at-named _ _ _ _ (call .child-named .ensures) (told .child .given .1) in
+    way-down _ _ _ _ _ _ _ (turn .before .loop .inv) (turn .loop-test .taken) _ (call .before .name-end .ensures) _ _ (is .0) (is .1)
 
 returns-4 : tie.Need-returns-4 Inv-loop μ-loop
 unfolding foundOutcome
-returns-4 c = way-end _ _ _ _ _ _ (c .before .loop .inv) (omega (arith, c .loop-test .left))
+returns-4 c = way-end _ _ _ _ _ _ _ (c .before .loop .inv) (omega (arith, c .loop-test .left))
 
 pub walk-spec : {M : Type 1} → statement M
 walk-spec =
@@ -82,6 +88,7 @@ walk-spec =
     (tie.spec
     Inv-loop
     μ-loop
+    node-at-requires
     loop-holds
     (λ c κs. search needs)
     child-named-requires
@@ -91,7 +98,7 @@ walk-spec =
     (λ c. search needs)
     returns-2
     returns-3
-    add-at
+    (λ c. search needs)
     loop-less
     loop-again
     returns-4)

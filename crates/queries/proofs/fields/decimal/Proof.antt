@@ -29,21 +29,21 @@ returns-3 : tie.Need-returns-3 Inv-loop μ-loop
 returns-3 c =
     let loop = c .before .before .before .before .before .loop in
     let loop-test = c .before .before .before .before .loop-test in
-    sym (loop .inv .1 ∙ number-other _ _ _ (loop-test .taken) (c .before .wide .result) (cc) (omega arith))
+    sym (loop .inv .1 ∙ number-other _ _ _ (loop-test .taken) (c .before .wide .result) (c .before .wide .ensures ∙ c .before .before .digit .ensures) (omega arith))
 
 returns-4 : tie.Need-returns-4 Inv-loop μ-loop
 returns-4 c =
     let loop = c .before .before .before .before .before .before .loop in
     let loop-test = c .before .before .before .before .before .loop-test in
     let wide = c .before .before .wide in
-    sym (loop .inv .1 ∙ number-over _ _ _ (loop-test .taken) (wide .result) (cc) (omega arith) (omega arith))
+    sym (loop .inv .1 ∙ number-over _ _ _ (loop-test .taken) (wide .result) (wide .ensures ∙ c .before .before .before .digit .ensures) (omega arith) (omega arith))
 
 loop-again : tie.Need-loop-again Inv-loop μ-loop
 loop-again c =
     let loop = c .before .before .before .before .before .before .loop in
     let loop-test = c .before .before .before .before .before .loop-test in
     let wide = c .before .before .wide in
-    (omega arith, loop .inv .1 ∙ number-step _ _ _ (loop-test .taken) (wide .result) (cc) (omega arith) (omega arith))
+    (omega arith, loop .inv .1 ∙ number-step _ _ _ (loop-test .taken) (wide .result) (wide .ensures ∙ c .before .before .before .digit .ensures) (omega arith) (omega arith))
 
 returns-5 : tie.Need-returns-5 Inv-loop μ-loop
 returns-5 c = sym (c .before .loop .inv .1 ∙ number-end _ _ _ (c .loop-test .left))

@@ -26,7 +26,7 @@ returns c =
     let args = c .before .before .before .before .before .before .before .before .before .args in
     let loop = c .before .before .before .before .before .before .loop in
     let digit = c .before .before .before .digit in
-    put-none _ _ _ (loop .inv .2) (pairs-high (args .s .now) (loop .i) (omega arith) (digit .result) (c .before .digit2 .result) (cc) (cc) (omega arith))
+    put-none _ _ _ (loop .inv .2) (pairs-high (args .s .now) (loop .i) (omega arith) (digit .result) (c .before .digit2 .result) (digit .ensures) (c .before .digit2 .ensures) (omega arith))
 
 returns-2 : tie.Need-returns-2 Inv-loop μ-loop
 unfolding Put
@@ -35,7 +35,7 @@ returns-2 c =
     let loop = c .before .before .before .before .before .before .before .loop in
     let digit = c .before .before .before .before .digit in
     let digit2 = c .before .before .digit2 in
-    put-none _ _ _ (loop .inv .2) (pairs-low (args .s .now) (loop .i) (omega arith) (digit .result) (digit2 .result) (cc) (cc) (omega arith) (omega arith))
+    put-none _ _ _ (loop .inv .2) (pairs-low (args .s .now) (loop .i) (omega arith) (digit .result) (digit2 .result) (digit .ensures) (digit2 .ensures) (omega arith) (omega arith))
 
 loop-again : tie.Need-loop-again Inv-loop μ-loop
 loop-again c =
@@ -46,7 +46,7 @@ loop-again c =
       (omega arith, omega arith),
       (simp length-set (omega arith), simp length-set (omega arith)),
       put-step _ (loop .out) (loop .i) (c .pair .result) _ _ (omega arith) (loop .inv .2)
-          (rw (c .pair .ensures) (pairs-step (args .s .now) (loop .i) (omega arith) (digit .result) (digit2 .result) (cc) (cc) (omega arith) (omega arith))),
+          (rw (c .pair .ensures) (pairs-step (args .s .now) (loop .i) (omega arith) (digit .result) (digit2 .result) (digit .ensures) (digit2 .ensures) (omega arith) (omega arith))),
     )
 
 returns-3 : tie.Need-returns-3 Inv-loop μ-loop

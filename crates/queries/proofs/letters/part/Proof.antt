@@ -2,7 +2,7 @@
 use mathlib.Core.Path.{_∙_, sym}
 use borrow.Author.Needs.{needs}
 use Rattle.queries.specs.Replies.{answerNumbers, part}
-use Rattle.queries.proofs.ReplyLaws.{first-bad, second-bad, both}
+use Rattle.queries.proofs.ReplyLaws.{spells, first-bad, second-bad, both}
 use Rattle.queries.proofs.letters.part.Statement.{statement}
 use Rattle.queries.proofs.letters.part.Tie as tie
 
@@ -10,21 +10,23 @@ returns : tie.Need-returns
 unfolding answerNumbers
 returns c =
     let args = c .before .before .before .before .before .before .args in
-    sym (first-bad (part (args .bytes .now)) (args .s .now) (cc))
+    let first = c .before .before .before .first in
+    sym (first-bad (part (args .bytes .now)) (args .s .now) (spells _ _ _ _ (first .ensures) (c .before .before .decimal .ensures) (c .enum-told .given .1)))
 
 returns-2 : tie.Need-returns-2
 unfolding answerNumbers
 returns-2 c =
     let args = c .before .before .before .before .before .before .before .before .before .before .before .args in
-    let start = c .before .before .before .before .before .start in
-    sym (second-bad (part (args .bytes .now)) (args .s .now) (start .given .0 .0) (cc) (cc))
+    let one = spells _ _ _ _ (c .before .before .before .before .before .before .before .before .first .ensures) (c .before .before .before .before .before .before .before .decimal .ensures) (c .before .before .before .before .before .start .given .1) in
+    let two = spells _ _ _ _ (c .before .before .before .rest .ensures) (c .before .before .decimal2 .ensures) (c .enum-told2 .given .1) in
+    sym (second-bad (part (args .bytes .now)) (args .s .now) _ one two)
 
 returns-3 : tie.Need-returns-3
 returns-3 c =
     let args = c .before .before .before .before .before .before .before .before .before .before .before .before .before .before .args in
-    let start = c .before .before .before .before .before .before .before .before .start in
-    let end = c .before .before .before .end in
-    c .of-span .ensures ∙ c .before .subslice .ensures ∙ sym (both (part (args .bytes .now)) (args .s .now) (start .given .0 .0) (end .given .0 .0) (cc) (cc))
+    let one = spells _ _ _ _ (c .before .before .before .before .before .before .before .before .before .before .before .first .ensures) (c .before .before .before .before .before .before .before .before .before .before .decimal .ensures) (c .before .before .before .before .before .before .before .before .start .given .1) in
+    let two = spells _ _ _ _ (c .before .before .before .before .before .before .rest .ensures) (c .before .before .before .before .before .decimal2 .ensures) (c .before .before .before .end .given .1) in
+    c .of-span .ensures ∙ c .before .subslice .ensures ∙ sym (both (part (args .bytes .now)) (args .s .now) _ _ one two)
 
 pub part-spec : {M : Type 1} → statement M
 part-spec =

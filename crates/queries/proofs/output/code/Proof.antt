@@ -35,10 +35,30 @@ returns-6 : tie.Need-returns-6
 unfolding answerNumbers
 returns-6 c = sym (ap front (c .enum-told6 .given .1))
 
+returns-7 : tie.Need-returns-7
+unfolding answerNumbers
+returns-7 c = sym (ap front (c .enum-told7 .given .1))
+
+returns-8 : tie.Need-returns-8
+unfolding answerNumbers
+returns-8 c = sym (ap front (c .enum-told8 .given .1))
+
+returns-9 : tie.Need-returns-9
+unfolding answerNumbers
+returns-9 c = sym (ap front (c .enum-told9 .given .1))
+
+returns-10 : tie.Need-returns-10
+unfolding answerNumbers
+returns-10 c = sym (ap front (c .enum-told10 .given .1))
+
 pub code-spec : {M : Type 1} → statement M
 code-spec =
     tie.close
     (tie.spec
+    (λ c. search needs)
+    (λ c. search needs)
+    (λ c. search needs)
+    (λ c. search needs)
     (λ c. search needs)
     (λ c. search needs)
     (λ c. search needs)
@@ -50,4 +70,8 @@ code-spec =
     returns-3
     returns-4
     returns-5
-    returns-6)
+    returns-6
+    returns-7
+    returns-8
+    returns-9
+    returns-10)
