@@ -1,6 +1,7 @@
--- Demand 1: "Any bytes, any tables get an answer. A refused load leaves its tables as they were."
--- `load` and `measure` have no `requires`, and the check proves that each call returns; `measure` is lent no table.
--- What is left to say is what a refusal leaves. Assumes nothing.
+-- Demand 1: "Any bytes, any tables, any path get an answer. A refused load leaves its tables as they were; lookups write nothing."
+-- No public call of reader, loader and lookup has a `requires`, and the check proves that each call returns. `measure` is lent no table,
+-- and the lookups are lent theirs by `&`, so there is nothing that they could write. What is left to say is what a refused load leaves.
+-- Assumes nothing.
 use mathlib.Core.Path.{_≡_, refl, sym, ap, _∙_}
 use mathlib.Core.List.{List}
 use Prim.Native.Nat.{ℕ}

@@ -4,11 +4,11 @@ use mathlib.Core.Logic.{_⊎_, inl, inr, ⊎-elim, _≢_}
 use Prim.Native.Nat.{ℕ, zero, suc, _+_, _-_, _*_, _/_, _≤_, _<_}
 use native.Mathlib.Omega.{arith}
 use mathlib.Core.List.{List, [], _∷_}
-use mathlib.Core.Bool.{Bool, true, false, not, _&&_}
+use mathlib.Core.Bool.{Bool, true, false, _&&_}
 use lib.Dec.{eqb, leb, ltb}
 use lib.ListN.{length, take, drop, getD, length-drop, drop-of-length-le}
 use lib.Seq.{drop-cons, take-length}
-use borrow.Author.Tests.{ne-eqb, eq-eqb, eqb-true, leb-true, le-leb, lt-leb, lt-ltb, le-ltb}
+use borrow.Author.Tests.{ne-eqb, eq-eqb, leb-true, le-leb, lt-leb, lt-ltb, le-ltb}
 use Rattle.format.specs.Choice.{if_then_else_}
 use Rattle.format.specs.Answer.{Refusal, Outcome, ok, refused, _>>=_, nothingFound, notUsable}
 use Rattle.format.specs.Bytes.{part}
@@ -18,14 +18,14 @@ use Rattle.format.specs.Rows as rows
 use Rattle.format.specs.Load.{capacity}
 use Rattle.format.specs.Find.{head, rest, same, SLASH, afterSlash}
 use Rattle.format.specs.Lookup.{linkGood, linksGood, nameInside, nameAt, across, down, reach, usable, find-from, find}
-use Rattle.format.proofs.Tools.{both, never-both, tested, if-yes, if-no}
+use Rattle.format.proofs.Tools.{both, tested, if-yes, if-no}
 use Rattle.format.proofs.Answer.{never, ok-same, then-ok, then-refused, check-ok, check-no}
 use Rattle.format.proofs.Lookup.{across-other, across-here, across-below, across-none, across-bad}
 use Rattle.format.proofs.Reached.{There, follows, links-good, Enough, next-enough, turns-enough}
-use Rattle.lookup.specs.Places.{IsNode, NameEnd, leadsTo, childFrom, childOutcome, OwnLink, Named}
+use Rattle.lookup.specs.Places.{IsNode, NameEnd, childFrom, Kids, ChildGives}
 use Rattle.lookup.specs.declared.judge.NodeRow.{NodeRow}
 use Rattle.lookup.specs.declared.path.Child.{Child}
-use Rattle.lookup.specs.declared.path.Child.the-variants.{At}
+use Rattle.lookup.specs.declared.path.Child.the-variants as child
 use Rattle.lookup.proofs.RowLaws.{nodes-length, leads, links-of, ahead, fewer-ahead}
 
 -- ---- one turn of the search for a child
@@ -149,15 +149,7 @@ module _ (b : List ℕ) (R : List rows.NodeRow) where
           let good = found-good b R (length R) link (part path i (end - i)) c (led b R row link (w .good)) f in
           record { there = good .0; good = rw own (links-of R c (good .1) .0); own = own; same = splits-here ∙ then-ok _ _ f refl }
 
--- ---- the children: `goal` is what the search answers
-
--- before a link is followed: it is a good one of an earlier row, and there are turns enough
-pub record Kids (b : List ℕ) (R : List rows.NodeRow) (goal : Outcome ℕ) (first : List ℕ) (low link : ℕ) : Type 0 where
-  pub turns : ℕ
-  pub there : low < length R
-  pub enough : length R ≤ low + turns
-  pub good : linkGood R low link ≡ true
-  pub same : goal ≡ childFrom b R turns link first
+-- ---- the children
 
 -- before a row is judged
 pub record Kid (b : List ℕ) (R : List rows.NodeRow) (goal : Outcome ℕ) (first : List ℕ) (row : ℕ) : Type 0 where
@@ -179,8 +171,8 @@ module _ (b : List ℕ) (R : List rows.NodeRow) where
           let left : x .turns ≡ suc (x .turns - 1) = omega (arith, x .there, x .enough) in
           x .same ∙ ap (λ k. childFrom b R k link first) left
 
-      pub kids-none : link ≡ NONE → refused nothingFound ≡ goal
-      kids-none e = sym (turned ∙ rw e (child-none b R (x .turns - 1) first))
+      pub kids-none : link ≡ NONE → goal ≡ refused nothingFound
+      kids-none e = turned ∙ rw e (child-none b R (x .turns - 1) first)
 
       pub kids-below : link ≢ NONE → (low < link) × (link < length R)
       kids-below some = leads R low link (x .good) some
@@ -194,58 +186,50 @@ module _ (b : List ℕ) (R : List rows.NodeRow) where
         same = turned;
       }
 
-    module _ (row : ℕ) (x : Kid b R goal first row) where
-      pub kid-bad : (linksGood R row && nameInside b R row) ≡ false → refused notUsable ≡ goal
-      kid-bad e = sym (x .same ∙ child-bad b R (x .turns) row first (x .some) e)
+-- a row that was judged, and its numbers
+module _ (b : List ℕ) (R : List rows.NodeRow) (row : ℕ) (node : NodeRow) (is : IsNode node (at R row)) (g : (linksGood R row && nameInside b R row) ≡ true) where
+  name-is : nameAt b R row ≡ part b (node .name) (node .len)
+  unfolding nameAt
+  name-is = rw (is .name, is .len)
 
-      module _ (node : NodeRow) (is : IsNode node (at R row)) (g : (linksGood R row && nameInside b R row) ≡ true) where
-        name-is : nameAt b R row ≡ part b (node .name) (node .len)
-        unfolding nameAt
-        name-is = rw (is .name, is .len)
+  pub judged-inside : node .name + node .len ≤ length b
+  unfolding nameInside
+  judged-inside = rw (is .name, is .len) (leb-true _ _ (both (linksGood R row) (nameInside b R row) g .1))
 
-        pub kid-inside : node .name + node .len ≤ length b
-        unfolding nameInside
-        kid-inside = rw (is .name, is .len) (leb-true _ _ (both (linksGood R row) (nameInside b R row) g .1))
+  pub judged-next : linkGood R row (node .next) ≡ true
+  judged-next = rw (is .next) (links-of R row (both (linksGood R row) (nameInside b R row) g .0) .1)
 
-        pub kid-here : same (part b (node .name) (node .len)) first ≡ true → ok row ≡ goal
-        kid-here e = sym (x .same ∙ child-here b R (x .turns) row first (x .some) g (rw name-is e))
+  module _ (goal : Outcome ℕ) (first : List ℕ) (x : Kid b R goal first row) where
+    pub kid-here : same (part b (node .name) (node .len)) first ≡ true → goal ≡ ok row
+    kid-here e = x .same ∙ child-here b R (x .turns) row first (x .some) g (rw name-is e)
 
-        next-good : linkGood R row (node .next) ≡ true
-        next-good = rw (is .next) (links-of R row (both (linksGood R row) (nameInside b R row) g .0) .1)
+    pub kid-next : same (part b (node .name) (node .len)) first ≡ false → Kids b R goal first row (node .next)
+    kid-next e = record {
+      turns = x .turns;
+      there = x .there;
+      enough = x .enough;
+      good = judged-next;
+      same = x .same ∙ child-next b R (x .turns) row first (x .some) g (rw name-is e) ∙ rw (is .next);
+    }
 
-        pub kid-next : same (part b (node .name) (node .len)) first ≡ false → Kids b R goal first row (node .next)
-        kid-next e = record {
-          turns = x .turns;
-          there = x .there;
-          enough = x .enough;
-          good = next-good;
-          same = x .same ∙ child-next b R (x .turns) row first (x .some) g (rw name-is e) ∙ rw (is .next);
-        }
+pub kid-bad : (b : List ℕ) (R : List rows.NodeRow) (row : ℕ) → (linksGood R row && nameInside b R row) ≡ false
+    → (goal : Outcome ℕ) (first : List ℕ) → Kid b R goal first row → goal ≡ refused notUsable
+kid-bad b R row e goal first x = x .same ∙ child-bad b R (x .turns) row first (x .some) e
 
-        -- the links that are followed rise
-        pub kid-less : ahead (length R) (node .next) < ahead (length R) row
-        kid-less = fewer-ahead R row (node .next) (x .some) (x .there) next-good
+-- ---- what the search gives
 
--- ---- what the search returns
+module _ (R : List rows.NodeRow) (goal : Outcome ℕ) {r : Child} (g : ChildGives R goal r) where
+  pub gives-at : {row link : ℕ} → r ≡ child.At row link → (goal ≡ ok row) × (link ≡ at R row .firstChild)
+  unfolding ChildGives
+  gives-at e = rw e at g
 
-module _ (b : List ℕ) (R : List rows.NodeRow) (link : ℕ) (first : List ℕ) where
-  pub named-refused : (r : Refusal) (c : Child) → childOutcome c ≡ refused r → OwnLink R c → refused r ≡ childFrom b R (length R) link first → Named b R link first c
-  named-refused r c is own e = record { same = is ∙ e; own = own }
+  pub gives-nothing : r ≡ child.Nothing → goal ≡ refused nothingFound
+  unfolding ChildGives
+  gives-nothing e = rw e at g
 
-  pub named-at : (row l : ℕ) → ok row ≡ childFrom b R (length R) link first → l ≡ at R row .firstChild → Named b R link first (At row l)
-  unfolding childOutcome OwnLink
-  named-at row l e own = record { same = e; own = own }
-
-  pub at-named : {r : Child} {row l : ℕ} → Named b R link first r → r ≡ At row l → (childFrom b R (length R) link first ≡ ok row) × (l ≡ at R row .firstChild)
-  unfolding childOutcome OwnLink
-  at-named n e = (sym (n .same) ∙ ap childOutcome e, rw e at (n .own))
-
--- a link that leads to a row is some, and that row
-pub leads-there : (link row : ℕ) → leadsTo link row ≡ true → (link ≢ NONE) × (link ≡ row)
-unfolding leadsTo
-leads-there link row e =
-    let h = both (not (eqb link NONE)) (eqb link row) e in
-    (λ same. never-both (rw (eq-eqb link NONE same, not)) (h .0), eqb-true link row (h .1))
+  pub gives-unusable : r ≡ child.Unusable → goal ≡ refused notUsable
+  unfolding ChildGives
+  gives-unusable e = rw e at g
 
 -- ---- the public calls
 

@@ -1,7 +1,7 @@
 -- Rows by the numbers of their table, and the places that private functions go by. No public promise cites it.
 use mathlib.Core.Path.{_≡_}
 use Prim.Native.Nat.{ℕ, zero, suc, _+_, _-_, _*_, _≤_, _<_}
-use mathlib.Core.Bool.{Bool, true, not, _&&_}
+use mathlib.Core.Bool.{true, _&&_}
 use mathlib.Core.List.{List}
 use lib.ListN.{length, getD, drop}
 use lib.Dec.{eqb}
@@ -16,7 +16,7 @@ use Rattle.format.specs.Lookup.{linkGood, linksGood, nameInside, nameAt}
 use Rattle.lookup.specs.declared.judge.NodeRow.{NodeRow}
 use Rattle.lookup.specs.declared.judge.PropRow.{PropRow}
 use Rattle.lookup.specs.declared.path.Child.{Child}
-use Rattle.lookup.specs.declared.path.Child.the-variants.{At, Nothing, Unusable}
+use Rattle.lookup.specs.declared.path.Child.the-variants as child
 
 -- row r of a table
 unfoldable pub nodeAt : List ℕ → ℕ → rows.NodeRow
@@ -81,10 +81,6 @@ pub record Within (p : List ℕ) (at end : ℕ) : Type 0 where
   pub order : at ≤ end
   pub inside : end ≤ length p
 
--- a link leads to a row
-unfoldable pub leadsTo : ℕ → ℕ → Bool
-leadsTo link row = not (eqb link NONE) && eqb link row
-
 -- row r and its later siblings, each reached in turn up to the first named `first`: the inner part of `across`
 unfoldable pub childFrom : List ℕ → List rows.NodeRow → ℕ → ℕ → List ℕ → Outcome ℕ
 childFrom b R zero r first = refused notUsable
@@ -94,24 +90,23 @@ childFrom b R (suc turns) r first =
     then (if same (nameAt b R r) first then ok r else childFrom b R turns (rows.at R r .nextSibling) first)
     else refused notUsable)
 
--- a good link of a row, in a table that has room for the rows counted
-pub record Linked (t : List ℕ) (count row link : ℕ) : Type 0 where
-  pub below : row < count
+-- what the search for a child has come to, before a link of row `low` is followed; `goal` is what it answers
+pub record Kids (b : List ℕ) (R : List rows.NodeRow) (goal : Outcome ℕ) (first : List ℕ) (low link : ℕ) : Type 0 where
+  pub turns : ℕ
+  pub there : low < length R
+  pub enough : length R ≤ low + turns
+  pub good : linkGood R low link ≡ true
+  pub same : goal ≡ childFrom b R turns link first
+
+-- what it gives: a child comes with its own link
+unfoldable pub ChildGives : List rows.NodeRow → Outcome ℕ → Child → Type 0
+ChildGives R goal (child.At row link) = (goal ≡ ok row) × (link ≡ rows.at R row .firstChild)
+ChildGives R goal child.Nothing = goal ≡ refused nothingFound
+ChildGives R goal child.Unusable = goal ≡ refused notUsable
+
+-- a link of a row below the count that was judged
+pub record Linked (t : List ℕ) (count link : ℕ) : Type 0 where
+  pub low : ℕ
+  pub below : low < count
   pub room : nodeWidth * count ≤ length t
-  pub good : linkGood (nodesIn count t) row link ≡ true
-
-unfoldable pub childOutcome : Child → Outcome ℕ
-childOutcome (At row first) = ok row
-childOutcome Nothing = refused nothingFound
-childOutcome Unusable = refused notUsable
-
--- the link that comes with a child is its own
-unfoldable pub OwnLink : List rows.NodeRow → Child → Type 0
-OwnLink R (At row first) = first ≡ rows.at R row .firstChild
-OwnLink R Nothing = Unit {0}
-OwnLink R Unusable = Unit {0}
-
--- the first of some children of that name
-pub record Named (b : List ℕ) (R : List rows.NodeRow) (link : ℕ) (first : List ℕ) (r : Child) : Type 0 where
-  pub same : childOutcome r ≡ childFrom b R (length R) link first
-  pub own : OwnLink R r
+  pub good : linkGood (nodesIn count t) low link ≡ true

@@ -1,13 +1,13 @@
 // Looking up a path: `DeviceTree::find` and `Node::find`.
 ghost use mathlib.Core.Path.{_≡_};
-ghost use Prim.Native.Nat.{_-_};
-ghost use Rattle.format.specs.Answer.{numbers, itself};
+ghost use Prim.Native.Nat.{ℕ, _-_};
+ghost use Rattle.format.specs.Answer.{Outcome, numbers, itself};
 ghost use Rattle.format.specs.Bytes.{part};
 ghost use Rattle.format.specs.Rows.{nodesIn};
 ghost use Rattle.format.specs.Lookup.{down, find-from};
 ghost use Rattle.format.specs.Lookup as lookup;
 ghost use Rattle.lookup.specs.Answers.{foundNumbers, foundOutcome};
-ghost use Rattle.lookup.specs.Places.{Judged, Linked, Within, Named, leadsTo};
+ghost use Rattle.lookup.specs.Places.{Judged, Linked, Within, Kids, ChildGives};
 use crate::Found;
 use crate::judge::links_are_good;
 use crate::judge::node_at;
@@ -24,55 +24,34 @@ enum Child {
     Unusable,
 }
 
-// Whether the link leads to that row.
-fn leads_to(link: u32, row: usize) -> bool
-    ensures { λ r. ⌜ r ≡ leadsTo link row ⌝ }
-{
-    if link == NONE {
-        return false;
-    }
-    link as usize == row
-}
-
-// The first of the children, whose first is `first`, that is named as the path from at up to end. Siblings often stand equally far apart: the inner loop
-// goes on to where the next one then is, so that the processor need not wait for the link, which is read and compared all the same.
+// The first of the children, whose first is `first`, that is named as the path from at up to end.
 fn child_named(
     s: &[u8],
     nodes: &[u32],
     count: usize,
-    parent: usize,
     first: u32,
     path: &[u8],
     at: usize,
     end: usize,
 ) -> Child
-    requires { ⌜ Linked (now nodes) count parent first × Within (now path) at end ⌝ }
-    ensures { λ r. ⌜ Named (now (s .entry)) (nodesIn count (now (nodes .entry))) first (part (now (path .entry)) at (end - at)) r ⌝ }
+    requires { ⌜ Linked (now nodes) count first × Within (now path) at end ⌝ }
+    ensures { λ r. ⌜ ((goal : Outcome ℕ) (low : ℕ) → Kids (now (s .entry)) (nodesIn count (now (nodes .entry))) goal (part (now (path .entry)) at (end - at)) low first
+        → ChildGives (nodesIn count (now (nodes .entry))) goal r) ⌝ }
 {
     let mut link = first;
-    let mut before = parent;
     'children: loop {
         if link == NONE {
             return Child::Nothing;
         }
-        let mut row = link as usize;
-        let step = row - before;
-        loop {
-            let guess = row + step;
-            let node = node_at(nodes, row);
-            if !row_is_good(node, row, count, s.len()) {
-                return Child::Unusable;
-            }
-            if same_part(s, node.name, node.len, path, at, end) {
-                break 'children Child::At(row, node.child);
-            }
-            link = node.next;
-            before = row;
-            if !leads_to(link, guess) {
-                break;
-            }
-            row = guess;
+        let row = link as usize;
+        let node = node_at(nodes, row);
+        if !row_is_good(node, row, count, s.len()) {
+            return Child::Unusable;
         }
+        if same_part(s, node.name, node.len, path, at, end) {
+            break 'children Child::At(row, node.child);
+        }
+        link = node.next;
     }
 }
 
@@ -87,7 +66,7 @@ fn walk(s: &[u8], nodes: &[u32], count: usize, from: usize, path: &[u8]) -> Foun
     let mut at = 0;
     while at < path.len() {
         let end = name_end(path, at);
-        match child_named(s, nodes, count, row, first, path, at, end) {
+        match child_named(s, nodes, count, first, path, at, end) {
             Child::At(child, link) => {
                 row = child;
                 first = link;

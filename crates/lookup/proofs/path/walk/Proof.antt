@@ -9,9 +9,8 @@ use Rattle.format.specs.Format.{nodeWidth}
 use Rattle.format.specs.Rows.{nodesIn}
 use Rattle.format.specs.Lookup.{down}
 use Rattle.lookup.specs.Answers.{foundOutcome}
-use Rattle.lookup.specs.Places.{childOutcome}
 use Rattle.lookup.proofs.RowLaws.{nodes-length, node-read}
-use Rattle.lookup.proofs.PathLaws.{Way, way-start, way-end, way-refused, way-down, at-named}
+use Rattle.lookup.proofs.PathLaws.{Way, way-start, way-end, way-refused, way-down, kids-begin, gives-at, gives-nothing, gives-unusable}
 use Rattle.lookup.proofs.path.walk.Statement.{statement}
 use Rattle.lookup.proofs.path.walk.Tie as tie
 
@@ -37,23 +36,27 @@ child-named-requires c κs =
     let turn = c .before in
     let lo = turn .before in
     let st = lo .before .before .before .before .before in (
-      record { below = rw nodes-length at (lo .loop .inv .there); room = st .pre .room; good = lo .loop .inv .good },
+      record { low = lo .loop .row; below = rw nodes-length at (lo .loop .inv .there); room = st .pre .room; good = lo .loop .inv .good },
       record { order = c .name-end .ensures .low; inside = c .name-end .ensures .high (omega (arith, turn .loop-test .taken)) },
     )
 
 returns : tie.Need-returns Inv-loop μ-loop
-unfolding foundOutcome childOutcome
+unfolding foundOutcome
 returns c =
     let call = c .before .before in
     let turn = call .before .before in
-    way-refused _ _ _ _ _ _ _ (turn .before .loop .inv) (turn .loop-test .taken) _ (call .before .name-end .ensures) _ (sym (call .child-named .ensures .same) ∙ ap childOutcome (c .enum-told .given .1))
+    let way = turn .before .loop .inv in
+    way-refused _ _ _ _ _ _ _ way (turn .loop-test .taken) _ (call .before .name-end .ensures) _
+    (gives-nothing _ _ (call .child-named .ensures _ _ (kids-begin _ _ _ _ _ (way .there) (way .good))) (c .enum-told .given .1))
 
 returns-2 : tie.Need-returns-2 Inv-loop μ-loop
-unfolding foundOutcome childOutcome
+unfolding foundOutcome
 returns-2 c =
     let call = c .before .before in
     let turn = call .before .before in
-    way-refused _ _ _ _ _ _ _ (turn .before .loop .inv) (turn .loop-test .taken) _ (call .before .name-end .ensures) _ (sym (call .child-named .ensures .same) ∙ ap childOutcome (c .enum-told2 .given .1))
+    let way = turn .before .loop .inv in
+    way-refused _ _ _ _ _ _ _ way (turn .loop-test .taken) _ (call .before .name-end .ensures) _
+    (gives-unusable _ _ (call .child-named .ensures _ _ (kids-begin _ _ _ _ _ (way .there) (way .good))) (c .enum-told2 .given .1))
 
 returns-3 : tie.Need-returns-3 Inv-loop μ-loop
 unfolding foundOutcome
@@ -61,9 +64,9 @@ returns-3 c =
     let told = c .before .before in
     let call = told .before .before in
     let turn = call .before .before in
-    let is = at-named _ _ _ _ (call .child-named .ensures) (told .child .given .1) in
-    let way = way-down _ _ _ _ _ _ _ (turn .before .loop .inv) (turn .loop-test .taken) _ (call .before .name-end .ensures) _ _ (is .0) (is .1) in
-    way-end _ _ _ _ _ _ _ way (omega (arith, c .if1 .taken))
+    let way = turn .before .loop .inv in
+    let is = gives-at _ _ (call .child-named .ensures _ _ (kids-begin _ _ _ _ _ (way .there) (way .good))) (told .child .given .1) in
+    way-end _ _ _ _ _ _ _ (way-down _ _ _ _ _ _ _ way (turn .loop-test .taken) _ (call .before .name-end .ensures) _ _ (is .0) (is .1)) (omega (arith, c .if1 .taken))
 
 loop-less : tie.Need-loop-less Inv-loop μ-loop
 loop-less c =
@@ -75,8 +78,9 @@ loop-again c =
     let told = c .before .before in
     let call = told .before .before in
     let turn = call .before .before in
-    let is = at-named _ _ _ _ (call .child-named .ensures) (told .child .given .1) in
-    way-down _ _ _ _ _ _ _ (turn .before .loop .inv) (turn .loop-test .taken) _ (call .before .name-end .ensures) _ _ (is .0) (is .1)
+    let way = turn .before .loop .inv in
+    let is = gives-at _ _ (call .child-named .ensures _ _ (kids-begin _ _ _ _ _ (way .there) (way .good))) (told .child .given .1) in
+    way-down _ _ _ _ _ _ _ way (turn .loop-test .taken) _ (call .before .name-end .ensures) _ _ (is .0) (is .1)
 
 returns-4 : tie.Need-returns-4 Inv-loop μ-loop
 unfolding foundOutcome
