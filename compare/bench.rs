@@ -144,8 +144,8 @@ fn measure(label: &str, b: &[u8]) {
     }
     let (mut theirs, mut own) = (vec![], vec![]);
     for _ in 0..RUNS {
-        theirs.push(timed(&asked, |path| drop(black_box(original.find(path)))));
-        own.push(timed(&asked, |path| drop(black_box(find(b, &ours, path.as_bytes())))));
+        theirs.push(timed(&asked, |path| _ = black_box(original.find(path))));
+        own.push(timed(&asked, |path| _ = black_box(find(b, &ours, path.as_bytes()))));
     }
     let (theirs, own) = (median(&mut theirs), median(&mut own));
     let each = LOOKUPS as f64;
