@@ -2,7 +2,6 @@
 // their counts are lent, and nothing but the answer's numbers is written.
 ghost use mathlib.Core.List.{_∷_, []};
 ghost use mathlib.Core.Path.{_≡_};
-ghost use lib.ListN.{set};
 ghost use lib.Seq.{sets};
 ghost use Rattle.format.specs.Answer.{numbers, itself, nothing, place};
 ghost use Rattle.format.specs.Lookup.{find-from, find, has-prop, prop-raw, prop-str, prop-u32, prop-u64};

@@ -2,7 +2,7 @@
 -- No public call of reader, loader and lookup has a `requires`, and the check proves that each call returns. `measure` is lent no table,
 -- and the lookups are lent theirs by `&`, so there is nothing that they could write. What is left to say is what a refused load leaves.
 -- Assumes nothing.
-use mathlib.Core.Path.{_≡_, refl, sym, ap, _∙_}
+use mathlib.Core.Path.{_≡_, refl, ap}
 use mathlib.Core.List.{List}
 use Prim.Native.Nat.{ℕ}
 use Rattle.format.specs.Answer.{Refusal, refusalNumbers, first, Outcome, ok, refused, numbers}

@@ -2,10 +2,10 @@
 -- accepted exactly when it encodes some tree. That tree is the only one." Assumes, for acceptance, that the blob's elements are bytes,
 -- which a `&[u8]` brings with it.
 use mathlib.Core.Path.{_≡_, refl, sym, ap, _∙_}
-use mathlib.Core.Logic.{_⊎_, _↔_}
+use mathlib.Core.Logic.{_⊎_}
 use mathlib.Core.List.{List, _∷_}
 use Prim.Native.Nat.{ℕ}
-use Rattle.format.specs.Answer.{refusalNumbers, first, code, Limit, Outcome, ok, refused, numbers}
+use Rattle.format.specs.Answer.{first, code, Limit, Outcome, ok, refused, numbers}
 use Rattle.format.specs.Bytes.{AreBytes}
 use Rattle.format.specs.Tree.{Tree}
 use Rattle.format.specs.Rules.{Rules, ours, original}

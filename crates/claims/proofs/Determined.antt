@@ -1,11 +1,10 @@
 -- Determined: a second answer that fits, with the tables that it leaves, is the same; and measure agrees with load wherever the room
 -- suffices. The readers' own stand in crate reader (proofs/Determined). Assumes nothing.
-use mathlib.Core.Path.{_≡_, refl, sym, ap, _∙_}
+use mathlib.Core.Path.{_≡_, sym, _∙_}
 use mathlib.Core.List.{List}
 use Prim.Native.Nat.{ℕ, _≤_}
-use native.Mathlib.Omega.{arith}
 use Rattle.format.specs.Answer.{first, numbers, itself, nothing, place, orEmpty}
-use Rattle.format.specs.Load.{Tables, treeNumbers, Loads, Measures}
+use Rattle.format.specs.Load.{Tables, Loads, Measures}
 use Rattle.format.specs.Lookup as table
 use Rattle.format.specs.Lookup.{Lent}
 use Rattle.format.specs.Agrees.{bytesIn}

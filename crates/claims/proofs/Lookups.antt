@@ -1,12 +1,12 @@
 -- Demand 2 for the lookups: "on the rows of an accepted load every lookup equals the tree's own, and 15 never comes there".
 -- Each statement is of an answer that fits the call's promise, so of what the code answers. Assumes that the blob's elements are bytes,
 -- which a `&[u8]` brings with it.
-use mathlib.Core.Path.{_≡_, refl, sym, ap, _∙_}
+use mathlib.Core.Path.{_≡_, ap, _∙_}
 use mathlib.Core.Logic.{_≢_}
 use mathlib.Core.List.{List, [], _∷_}
 use mathlib.Core.Bool.{false}
 use Prim.Native.Nat.{ℕ, _≤_, _<_}
-use Rattle.format.specs.Answer.{Outcome, ok, refused, _>>=_, nothingFound, refusalNumbers, first, numbers, itself, nothing, place, orEmpty}
+use Rattle.format.specs.Answer.{ok, refused, _>>=_, nothingFound, refusalNumbers, first, numbers, itself, nothing, place, orEmpty}
 use Rattle.format.specs.Bytes.{AreBytes}
 use Rattle.format.specs.Utf8.{from-utf8}
 use Rattle.format.specs.Tree.{Node, Tree, nodeCount}

@@ -4,8 +4,7 @@ use mathlib.Core.Path.{_≡_, refl, sym, ap, _∙_, subst}
 use Prim.Native.Nat.{ℕ, _+_, _<_}
 use native.Mathlib.Omega.{arith}
 use mathlib.Core.List.{List, [], _∷_, _++_}
-use mathlib.Core.Bool.{Bool, true, false, _&&_}
-use lib.ListN.{length}
+use mathlib.Core.Bool.{Bool, true, false}
 use lib.Dec.{eqb}
 use borrow.Author.Tests.{eqb-true}
 use Rattle.format.specs.Choice.{if_then_else_}
@@ -14,7 +13,7 @@ use Rattle.format.specs.Bytes.{AreBytes, wordAt}
 use Rattle.format.specs.Format.{structureAt}
 use Rattle.format.specs.Utf8.{Utf8, end, utf8-1, utf8-2, utf8-3-E0, utf8-3-E1, utf8-3-ED, utf8-3-EE, utf8-4-F0, utf8-4-F1, utf8-4-F4, from-utf8}
 use Rattle.format.specs.Tree.{Property, Node, node, Nodes, none, _&_, nodeCount, Tree}
-use Rattle.format.specs.Encodes.{GoodName, GoodProperties, GoodNode, GoodNodes, afterName, afterProperties, afterNode}
+use Rattle.format.specs.Encodes.{GoodProperties, GoodNode, GoodNodes}
 use Rattle.format.specs.Find.{SLASH, head, rest, same, Place, nameOf, propertiesOf, findBelow, findAmong, find-from, placeBelow, placeAmong, placeOf, firstNamed, prop-raw, afterSlash, rootPlace}
 use Rattle.format.specs.Load.{Tables, tablesAfter, Accepted}
 use Rattle.format.specs.Find as tree

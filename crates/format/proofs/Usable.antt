@@ -1,9 +1,9 @@
 -- The tree's own lookups never give 15, so neither do those that say the same. Assumes nothing.
-use mathlib.Core.Path.{_≡_, refl, sym, ap, _∙_}
+use mathlib.Core.Path.{_≡_, refl, sym, ap}
 use mathlib.Core.Logic.{_≢_}
 use Prim.Native.Nat.{ℕ}
 use native.Mathlib.Omega.{arith}
-use mathlib.Core.List.{List, []}
+use mathlib.Core.List.{List}
 use mathlib.Core.Bool.{Bool, true, false}
 use Rattle.format.specs.Answer.{Refusal, refusalNumbers, Outcome, ok, refused, _>>=_, check, first, numbers, Span}
 use Rattle.format.specs.Answer.{invalidMagicNumber, sizeMismatch, unexpectedEndOfInput, parseError, utf8Error, versionNotSupported, tooDeep, reservationRoom, nodeRoom, propertyRoom, nothingFound, missing0, tooShort, notUsable}

@@ -2,7 +2,6 @@
 -- `x-outcome` turns a promise into an outcome; `x-promise` is the way back, by which the lookups meet their promises. Assumes nothing.
 use mathlib.Core.Path.{_≡_, refl, sym, ap, _∙_}
 use Prim.Native.Nat.{ℕ}
-use mathlib.Core.List.{List}
 use Rattle.format.specs.Answer.{Outcome, ok, refused, nothingFound, notUsable, refusalNumbers, numbers, itself, nothing, place, Span}
 use Rattle.format.proofs.Answer.{itself-same, nothing-same, place-same}
 use Rattle.lookup.specs.Answers.{foundNumbers, foundOutcome, hasNumbers, hasOutcome, valueNumbers, valueOutcome, whyNumbers, whyOf, textNumbers, textOutcome, number32Numbers, number32Outcome, number64Numbers, number64Outcome}

@@ -1,15 +1,13 @@
 -- Looking up a path: what holds before each part of it and before each child, and the public calls by cases. Assumes nothing.
 use mathlib.Core.Path.{_≡_, refl, sym, ap, _∙_}
 use mathlib.Core.Logic.{_⊎_, inl, inr, ⊎-elim, _≢_}
-use Prim.Native.Nat.{ℕ, zero, suc, _+_, _-_, _*_, _/_, _≤_, _<_}
+use Prim.Native.Nat.{ℕ, zero, suc, _+_, _-_, _/_, _≤_, _<_}
 use native.Mathlib.Omega.{arith}
 use mathlib.Core.List.{List, [], _∷_}
-use mathlib.Core.Bool.{Bool, true, false, _&&_}
-use lib.Dec.{eqb, leb, ltb}
+use mathlib.Core.Bool.{true, false, _&&_}
 use lib.ListN.{length, take, drop, getD, length-drop, drop-of-length-le}
 use lib.Seq.{drop-cons, take-length}
 use borrow.Author.Tests.{ne-eqb, eq-eqb, leb-true, le-leb, lt-leb, lt-ltb, le-ltb}
-use Rattle.format.specs.Choice.{if_then_else_}
 use Rattle.format.specs.Answer.{Refusal, Outcome, ok, refused, _>>=_, nothingFound, notUsable}
 use Rattle.format.specs.Bytes.{part}
 use Rattle.format.specs.Format.{NONE, nodeWidth}
@@ -26,7 +24,7 @@ use Rattle.lookup.specs.Places.{IsNode, NameEnd, childFrom, Kids, ChildG
 use Rattle.lookup.specs.declared.judge.NodeRow.{NodeRow}
 use Rattle.lookup.specs.declared.path.Child.{Child}
 use Rattle.lookup.specs.declared.path.Child.the-variants as child
-use Rattle.lookup.proofs.RowLaws.{nodes-length, leads, links-of, ahead, fewer-ahead}
+use Rattle.lookup.proofs.RowLaws.{leads, links-of}
 
 -- ---- one turn of the search for a child
 

@@ -1,14 +1,13 @@
 -- Looking up a property, a row at a time, and `prop_raw` by cases. Assumes nothing.
-use mathlib.Core.Path.{_≡_, refl, sym, ap, _∙_}
-use Prim.Native.Nat.{ℕ, zero, suc, _+_, _-_, _*_, _/_, _≤_, _<_}
+use mathlib.Core.Path.{_≡_, refl, sym, _∙_}
+use Prim.Native.Nat.{ℕ, suc, _+_, _-_, _/_, _≤_, _<_}
 use native.Mathlib.Omega.{arith}
-use mathlib.Core.List.{List, [], _∷_}
-use mathlib.Core.Bool.{Bool, true, false, _&&_}
+use mathlib.Core.List.{List}
+use mathlib.Core.Bool.{true, false}
 use lib.Dec.{leb}
 use lib.ListN.{length}
 use lib.Seq.{take-length}
 use borrow.Author.Tests.{le-leb, lt-leb}
-use Rattle.format.specs.Choice.{if_then_else_}
 use Rattle.format.specs.Answer.{Outcome, ok, refused, Span, nothingFound, notUsable}
 use Rattle.format.specs.Bytes.{part}
 use Rattle.format.specs.Format.{propertyWidth}

@@ -1,25 +1,23 @@
 -- What is made of a value: where it lies, and what its readers say, by cases. Assumes nothing.
-use mathlib.Core.Path.{_≡_, refl, sym, ap, _∙_}
+use mathlib.Core.Path.{_≡_, refl, sym, _∙_}
 use mathlib.Core.Logic.{_≢_}
 use Prim.Native.Nat.{ℕ, zero, suc, _+_, _-_, _≤_, _<_}
 use native.Mathlib.Omega.{arith}
-use mathlib.Core.List.{List, [], _∷_}
-use mathlib.Core.Bool.{Bool, true, false, _&&_}
-use lib.Dec.{eqb, leb}
+use mathlib.Core.List.{List, []}
+use mathlib.Core.Bool.{true}
+use lib.Dec.{leb}
 use lib.ListN.{length, take, drop, getD, length-take}
 use lib.Seq.{length-take-le}
 use borrow.Author.Tests.{le-leb, lt-leb, eq-eqb, ne-eqb, leb-true}
-use Rattle.format.specs.Choice.{if_then_else_}
-use Rattle.format.specs.Answer.{Refusal, Outcome, ok, refused, _>>=_, check, Span, orEmpty, unexpectedEndOfInput, utf8Error, missing0, tooShort}
+use Rattle.format.specs.Answer.{Refusal, Outcome, ok, refused, _>>=_, Span, orEmpty, unexpectedEndOfInput, utf8Error, missing0, tooShort}
 use Rattle.format.specs.Bytes.{part, number, valueAt}
 use Rattle.format.specs.Read.{read-be, utf8Check}
-use Rattle.format.specs.Utf8.{from-utf8}
 use Rattle.format.specs.Rows.{PropertyRow, propertyAt, propertiesIn}
-use Rattle.format.specs.Find.{same, asNumber, ends0, asString}
-use Rattle.format.specs.Lookup.{Lent, usable, bytesOf, partsInside, valueSpan, among, propertyOf, prop-raw, prop-str}
+use Rattle.format.specs.Find.{asNumber, ends0, asString}
+use Rattle.format.specs.Lookup.{Lent, bytesOf, partsInside, valueSpan, among, propertyOf, prop-raw, prop-str}
 use Rattle.format.specs.Agrees.{bytesIn}
-use Rattle.format.proofs.Tools.{split, both, tested, if-went}
-use Rattle.format.proofs.Answer.{never, ok-same, refused-same, step, then-ok, then-refused, check-ok, check-no, checked}
+use Rattle.format.proofs.Tools.{split, both, if-went}
+use Rattle.format.proofs.Answer.{never, ok-same, step, then-ok, then-refused, check-ok, check-no}
 use Rattle.format.proofs.Read.{read-there, read-past-end}
 use Rattle.lookup.specs.Answers.{textAt}
 

@@ -3,7 +3,7 @@ use Prim.Native.Nat.{ℕ}
 use mathlib.Core.List.{List, [], _∷_}
 use lib.ListN.{length}
 use Rattle.format.specs.Answer as answer
-use Rattle.format.specs.Answer.{Refusal, refusalNumbers, Outcome, ok, refused, _>>=_, Span}
+use Rattle.format.specs.Answer.{Refusal, Outcome, ok, refused, _>>=_, Span}
 use Rattle.format.specs.Lookup.{Lent}
 use Rattle.lookup.specs.declared.Found.{Found}
 use Rattle.lookup.specs.declared.Found.the-variants as found

@@ -2,7 +2,7 @@
 use denote.Ref.{now}
 use borrow.Author.Needs.{needs}
 use native.Mathlib.Omega.{arith}
-use mathlib.Core.Path.{_≡_, sym, _∙_}
+use mathlib.Core.Path.{sym, _∙_}
 use Prim.Native.Nat.{_+_, _-_, _≤_}
 use Rattle.format.specs.Bytes.{AreBytes}
 use Rattle.lookup.proofs.NameLaws.{Alike, alike-same, word-alike, word-differs}

@@ -3,7 +3,7 @@
 use borrow.Author.Needs.{needs}
 use borrow.Author.Tests.{not-true, not-false}
 use native.Mathlib.Omega.{arith}
-use mathlib.Core.Path.{_≡_, _∙_, sym, refl}
+use mathlib.Core.Path.{_∙_, sym, refl}
 use Prim.Native.Nat.{ℕ, _-_}
 use denote.Ref.{now}
 use Rattle.format.specs.Answer.{Outcome}

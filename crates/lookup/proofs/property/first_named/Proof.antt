@@ -3,9 +3,7 @@ use borrow.Author.Needs.{needs}
 use borrow.Author.Tests.{not-true, not-false, leb-true}
 use native.Mathlib.Omega.{arith}
 use mathlib.Core.Path.{_≡_, _∙_, sym, refl}
-use Prim.Native.Nat.{ℕ, _+_, _-_, _≤_}
-use lib.ListN.{length}
-use denote.Ref.{now}
+use Prim.Native.Nat.{ℕ, _-_, _≤_}
 use Rattle.format.specs.Format.{propertyWidth}
 use Rattle.format.specs.Rows.{propertiesIn}
 use Rattle.format.specs.Lookup.{among}

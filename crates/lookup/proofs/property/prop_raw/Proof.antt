@@ -1,6 +1,6 @@
 -- `prop_raw` meets its contract, by its five returns. Assumes nothing.
 use native.Mathlib.Omega.{arith}
-use mathlib.Core.Path.{_≡_, sym, _∙_}
+use mathlib.Core.Path.{sym, _∙_}
 use borrow.Author.Tests.{not-true, not-false, leb-true}
 use borrow.Author.Needs.{needs}
 use Prim.Native.Nat.{_+_, _≤_}

@@ -1,5 +1,5 @@
 -- `queries::fields::gather` meets its contract. The loop's invariant: the words put so far are the first words. Assumes nothing.
-use Prim.Native.Nat.{_≤_, _*_, _-_, _/_, _%_}
+use Prim.Native.Nat.{_≤_, _-_, _/_, _%_}
 use native.Mathlib.Omega.{arith}
 use mathlib.Core.Path.{_≡_, refl}
 use borrow.Author.Needs.{needs}

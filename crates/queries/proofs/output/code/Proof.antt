@@ -1,6 +1,6 @@
 -- `queries::output::code` meets its contract: the first of the answer's numbers, case by case. Assumes nothing.
 use Prim.Native.Nat.{ℕ}
-use mathlib.Core.Path.{_≡_, ap, sym}
+use mathlib.Core.Path.{ap, sym}
 use borrow.Author.Needs.{needs}
 use lib.ListN.{getD}
 use Rattle.queries.specs.Replies.{answerNumbers}
