@@ -1,6 +1,6 @@
 // How long 200 path lookups take: the original's `find` and the static library's, in one process, warm, in turns.
 //   bench [FILE.dtb ..]
-// Three made trees of some 2,000 nodes and 8,000 properties, and each file. Both sides must find the same node.
+// Made trees of some 2,000 nodes and 8,000 properties, and each file. Both sides must find the same node.
 extern crate device_tree;
 
 #[allow(dead_code)]
@@ -74,6 +74,14 @@ fn realistic() -> Node {
             return named(String::new(), 0, buses);
         }
     }
+}
+
+// Expanders with bays, each with its sensors and lights: what a backplane says.
+fn enclosure() -> Node {
+    let part = |name: &str, i: usize| named(format!("{name}@{:x}", 0x40 + i % 8), i, vec![]);
+    let parts = |i: usize| vec![part("temperature-sensor", i), part("temperature-sensor", i + 1), part("led", i), part("led", i + 1)];
+    let bays = |e: usize| (0..100).map(|i| named(format!("bay@{:x}", 0x100 * e + i), i, parts(i))).collect();
+    named(String::new(), 0, (1..5).map(|e| named(format!("expander@{e}"), e, bays(e))).collect())
 }
 
 // ---- the two sides
@@ -156,7 +164,7 @@ fn measure(label: &str, b: &[u8]) {
 
 fn main() {
     println!("{:24} {:6}        {:>8} {:>8}", "tree", "", "original", "library");
-    for (label, tree) in [("realistic", realistic()), ("deep", deep()), ("wide", wide())] {
+    for (label, tree) in [("realistic", realistic()), ("enclosure", enclosure()), ("deep", deep()), ("wide", wide())] {
         measure(label, &build(&tree, &[(0, 0)], &Layout::USUAL));
     }
     for file in std::env::args().skip(1) {
