@@ -40,6 +40,9 @@ module _ (b : List ℕ) (R : List NodeRow) where
       go true f e = inl (eqb-true _ _ f)
       go false f e = let h = both _ _ e in inr (record { above = ltb-true _ _ (h .0); inside = ltb-true _ _ (h .1); some = λ same. never-both f (eq-eqb l NONE same) })
 
+  pub led : (r l : ℕ) → linkGood R r l ≡ true → (l ≡ NONE) ⊎ There (length R) l
+  led r l e = ⊎-elim (λ same. inl same) (λ k. inr (record { inside = k .inside; some = k .some })) (follows r l e)
+
   abbrev pub Here : ℕ → Type 0
   Here r = There (length R) r
 
@@ -56,12 +59,13 @@ module _ (b : List ℕ) (R : List NodeRow) where
   abbrev pub Same : ℕ → ℕ → Type 0
   Same f g = (l : ℕ) (first later : List ℕ) → (l ≡ NONE) ⊎ Here l → Enough f l → Enough g l → across b R f l first later ≡ across b R g l first later
 
+  pub links-of : (r : ℕ) → linksGood R r ≡ true → (linkGood R r (at R r .firstChild) ≡ true) × (linkGood R r (at R r .nextSibling) ≡ true)
+  unfolding linksGood
+  links-of r e = both (linkGood R r (at R r .firstChild)) (linkGood R r (at R r .nextSibling)) e
+
   pub links-good : (r : ℕ) → (linksGood R r && nameInside b R r) ≡ true
       → (linkGood R r (at R r .firstChild) ≡ true) × (linkGood R r (at R r .nextSibling) ≡ true)
-  unfolding linksGood
-  links-good r e =
-      let h = both (linkGood R r (at R r .firstChild) && linkGood R r (at R r .nextSibling)) (nameInside b R r) e in
-      both (linkGood R r (at R r .firstChild)) (linkGood R r (at R r .nextSibling)) (h .0)
+  links-good r e = links-of r (both (linksGood R r) (nameInside b R r) e .0)
 
   good-turn : (f g r : ℕ) (first : List ℕ) → Here r → Enough (suc f) r → Enough (suc g) r → Same f g
       → (good : (linksGood R r && nameInside b R r) ≡ true) → (t : Bool) → same (nameAt b R r) first ≡ t
@@ -70,14 +74,14 @@ module _ (b : List ℕ) (R : List NodeRow) where
       let link = links-good r good .1 in
       let l = at R r .nextSibling in
       across-other b R f r first (inside .some) good later e
-      ∙ ih l first later (⊎-elim (λ k. inl k) (λ k. inr (record { inside = k .inside; some = k .some })) (follows r l link)) (next-enough f r l inside hf link) (next-enough g r l inside hg link)
+      ∙ ih l first later (led r l link) (next-enough f r l inside hf link) (next-enough g r l inside hg link)
       ∙ sym (across-other b R g r first (inside .some) good later e)
   good-turn f g r first inside hf hg ih good true e [] = across-here b R f r first (inside .some) good e ∙ sym (across-here b R g r first (inside .some) good e)
   good-turn f g r first inside hf hg ih good true e (c ∷ s) =
       let link = links-good r good .0 in
       let l = at R r .firstChild in
       across-below b R f r first (inside .some) good c s e
-      ∙ ih l (head (c ∷ s)) (rest (c ∷ s)) (⊎-elim (λ k. inl k) (λ k. inr (record { inside = k .inside; some = k .some })) (follows r l link)) (next-enough f r l inside hf link) (next-enough g r l inside hg link)
+      ∙ ih l (head (c ∷ s)) (rest (c ∷ s)) (led r l link) (next-enough f r l inside hf link) (next-enough g r l inside hg link)
       ∙ sym (across-below b R g r first (inside .some) good c s e)
 
   row-turn : (f g r : ℕ) (first later : List ℕ) → Here r → Enough (suc f) r → Enough (suc g) r → Same f g

@@ -19,12 +19,12 @@ use Rattle.format.specs.Lookup.{linkGood, linksGood, nameInside, nameAt, across
 use Rattle.format.proofs.Tools.{both, tested, if-yes, if-no}
 use Rattle.format.proofs.Answer.{never, ok-same, then-ok, then-refused, check-ok, check-no}
 use Rattle.format.proofs.Lookup.{across-other, across-here, across-below, across-none, across-bad}
-use Rattle.format.proofs.Reached.{There, follows, links-good, Enough, next-enough, turns-enough}
+use Rattle.format.proofs.Reached.{There, follows, led, links-of, links-good, Enough, next-enough, turns-enough}
 use Rattle.lookup.specs.Places.{IsNode, NameEnd, childFrom, Kids, ChildGives}
 use Rattle.lookup.specs.declared.judge.NodeRow.{NodeRow}
 use Rattle.lookup.specs.declared.path.Child.{Child}
 use Rattle.lookup.specs.declared.path.Child.the-variants as child
-use Rattle.lookup.proofs.RowLaws.{leads, links-of}
+use Rattle.lookup.proofs.RowLaws.{leads}
 
 -- ---- one turn of the search for a child
 
@@ -51,10 +51,6 @@ module _ (b : List ℕ) (R : List rows.NodeRow) where
       unfolding childFrom
       child-next e = if-no _ _ (ne-eqb r NONE some) ∙ if-yes _ _ good ∙ if-no _ _ e
 
-  -- what a good link leads to
-  led : (r l : ℕ) → linkGood R r l ≡ true → (l ≡ NONE) ⊎ There (length R) l
-  led r l e = ⊎-elim (λ same. inl same) (λ k. inr (record { inside = k .inside; some = k .some })) (follows b R r l e)
-
   -- ---- `across` is the search for a child, and then the way down from it
 
   abbrev Splits : ℕ → ℕ → Type 0
@@ -68,7 +64,7 @@ module _ (b : List ℕ) (R : List rows.NodeRow) where
       let link = links-good b R r good .0 in
       let l = at R r .firstChild in
       across-below b R turns r first (there .some) good c s e
-      ∙ turns-enough b R turns (length R) l (head (c ∷ s)) (rest (c ∷ s)) (led r l link) (next-enough b R turns r l there enough link)
+      ∙ turns-enough b R turns (length R) l (head (c ∷ s)) (rest (c ∷ s)) (led b R r l link) (next-enough b R turns r l there enough link)
       (omega (arith, there .inside), λ other. ⊎-elim (λ same. absurd (other same)) (λ k. omega (arith, k .above)) (follows b R r l link))
 
   splits-turn : (turns r : ℕ) → There (length R) r → Enough b R (suc turns) r → (Enough b R turns (at R r .nextSibling) → (at R r .nextSibling ≡ NONE) ⊎ There (length R) (at R r .nextSibling) → Splits turns (at R r .nextSibling))
@@ -79,7 +75,7 @@ module _ (b : List ℕ) (R : List rows.NodeRow) where
       (λ e. here-down turns r there enough good first later e ∙ sym (then-ok _ _ (child-here turns r first (there .some) good e) refl))
       (λ e. let link = links-good b R r good .1 in
       across-other b R turns r first (there .some) good later e
-      ∙ ih (next-enough b R turns r (at R r .nextSibling) there enough link) (led r (at R r .nextSibling) link) first later
+      ∙ ih (next-enough b R turns r (at R r .nextSibling) there enough link) (led b R r (at R r .nextSibling) link) first later
       ∙ ap (λ m. m >>= λ c. down b R c later) (sym (child-next turns r first (there .some) good e))))
       (λ bad. across-bad b R turns r first later (there .some) bad ∙ sym (then-refused _ _ (child-bad turns r first (there .some) bad)))
 
@@ -101,7 +97,7 @@ module _ (b : List ℕ) (R : List rows.NodeRow) where
       (λ good. tested (same (nameAt b R r) first)
       (λ here. let is : r ≡ c = ok-same (sym (child-here turns r first (there .some) good here) ∙ e) in
       rw (← is) (there .inside, both (linksGood R r) (nameInside b R r) good .0))
-      (λ other. found-good turns (at R r .nextSibling) first c (led r (at R r .nextSibling) (links-good b R r good .1)) (sym (child-next turns r first (there .some) good other) ∙ e)))
+      (λ other. found-good turns (at R r .nextSibling) first c (led b R r (at R r .nextSibling) (links-good b R r good .1)) (sym (child-next turns r first (there .some) good other) ∙ e)))
       (λ bad. absurd (never (sym (child-bad turns r first (there .some) bad) ∙ e))))
       at-r
 
@@ -115,7 +111,7 @@ pub record Way (b : List ℕ) (R : List rows.NodeRow) (goal : Outcome ℕ) (path
 
 module _ (b : List ℕ) (R : List rows.NodeRow) where
   pub way-start : (path : List ℕ) (row : ℕ) (x : NodeRow) → row < length R → linksGood R row ≡ true → IsNode x (at R row) → Way b R (down b R row path) path row (x .child) 0
-  way-start path row x h g is = record { there = h; good = rw (is .child) (links-of R row g .0); own = is .child; same = refl }
+  way-start path row x h g is = record { there = h; good = rw (is .child) (links-of b R row g .0); own = is .child; same = refl }
 
   down-step : (r : ℕ) (path : List ℕ) (i : ℕ) → i < length path → down b R r (drop i path) ≡ across b R (length R) (at R r .firstChild) (head (drop i path)) (rest (drop i path))
   unfolding down
@@ -145,7 +141,7 @@ module _ (b : List ℕ) (R : List rows.NodeRow) where
       pub way-down : (c l : ℕ) → childFrom b R (length R) link (part path i (end - i)) ≡ ok c → l ≡ at R c .firstChild → Way b R goal path c l (end + 1)
       way-down c l f own =
           let good = found-good b R (length R) link (part path i (end - i)) c (led b R row link (w .good)) f in
-          record { there = good .0; good = rw own (links-of R c (good .1) .0); own = own; same = splits-here ∙ then-ok _ _ f refl }
+          record { there = good .0; good = rw own (links-of b R c (good .1) .0); own = own; same = splits-here ∙ then-ok _ _ f refl }
 
 -- ---- the children
 
@@ -195,7 +191,7 @@ module _ (b : List ℕ) (R : List rows.NodeRow) (row : ℕ) (node : NodeRow) (is
   judged-inside = rw (is .name, is .len) (leb-true _ _ (both (linksGood R row) (nameInside b R row) g .1))
 
   pub judged-next : linkGood R row (node .next) ≡ true
-  judged-next = rw (is .next) (links-of R row (both (linksGood R row) (nameInside b R row) g .0) .1)
+  judged-next = rw (is .next) (links-good b R row g .1)
 
   module _ (goal : Outcome ℕ) (first : List ℕ) (x : Kid b R goal first row) where
     pub kid-here : same (part b (node .name) (node .len)) first ≡ true → goal ≡ ok row

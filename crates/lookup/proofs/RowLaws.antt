@@ -1,20 +1,21 @@
 -- The rows that a table holds, by their places in it, and where a good link leads. Assumes nothing.
 use mathlib.Core.Path.{_≡_, refl, ap, _∙_}
-use mathlib.Core.Logic.{_≢_}
+use mathlib.Core.Logic.{_≢_, ⊎-elim}
 use Prim.Native.Nat.{ℕ, zero, suc, _+_, _-_, _*_, _<_}
 use native.Mathlib.Omega.{arith}
-use mathlib.Core.List.{List}
+use mathlib.Core.List.{List, []}
 use mathlib.Core.Bool.{true}
-use lib.Dec.{eqb, ltb}
+use lib.Dec.{eqb}
 use lib.ListN.{length, drop, getD}
 use lib.Seq.{getD-drop}
-use borrow.Author.Tests.{eqb-false, ltb-true, ne-eqb}
+use borrow.Author.Tests.{eqb-false, ne-eqb}
 use Rattle.format.specs.Choice.{if_then_else_}
 use Rattle.format.specs.Format.{NONE, nodeWidth, propertyWidth}
 use Rattle.format.specs.Rows.{at, nodesIn, propertiesIn}
 use Rattle.format.specs.Rows as rows
-use Rattle.format.specs.Lookup.{linkGood, linksGood}
-use Rattle.format.proofs.Tools.{both, tested, if-yes, if-no}
+use Rattle.format.specs.Lookup.{linkGood}
+use Rattle.format.proofs.Tools.{tested, if-yes, if-no}
+use Rattle.format.proofs.Reached.{follows}
 use Rattle.lookup.specs.Places.{nodeAt, propertyAt, IsNode, IsProperty}
 use Rattle.lookup.specs.declared.judge.NodeRow.{NodeRow}
 use Rattle.lookup.specs.declared.judge.PropRow.{PropRow}
@@ -79,14 +80,7 @@ property-read n t k x h is = rw (property-is n t k h) is
 module _ (R : List rows.NodeRow) where
   -- where a good link leads
   pub leads : (r l : ℕ) → linkGood R r l ≡ true → l ≢ NONE → (r < l) × (l < length R)
-  unfolding linkGood
-  leads r l e n =
-      let h = both (ltb r l) (ltb l (length R)) (rw (ne-eqb l NONE n) at e) in
-      (ltb-true _ _ (h .0), ltb-true _ _ (h .1))
-
-  pub links-of : (r : ℕ) → linksGood R r ≡ true → (linkGood R r (at R r .firstChild) ≡ true) × (linkGood R r (at R r .nextSibling) ≡ true)
-  unfolding linksGood
-  links-of r e = both (linkGood R r (at R r .firstChild)) (linkGood R r (at R r .nextSibling)) e
+  leads r l e n = ⊎-elim (λ same. absurd (n same)) (λ k. (k .above, k .inside)) (follows [] R r l e)
 
 -- how many rows are ahead of a link
 unfoldable pub ahead : ℕ → ℕ → ℕ
