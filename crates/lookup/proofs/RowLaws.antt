@@ -1,19 +1,19 @@
 -- The rows that a table holds, by their places in it, and where a good link leads. Assumes nothing.
 use mathlib.Core.Path.{_≡_, refl, ap, _∙_}
 use mathlib.Core.Logic.{_≢_, ⊎-elim}
-use Prim.Native.Nat.{ℕ, zero, suc, _+_, _-_, _*_, _<_}
+use Prim.Native.Nat.{ℕ, zero, suc, _+_, _-_, _*_, _≤_, _<_, _%_, _^_}
 use native.Mathlib.Omega.{arith}
 use mathlib.Core.List.{List, []}
-use mathlib.Core.Bool.{true}
-use lib.Dec.{eqb}
-use lib.ListN.{length, drop, getD}
-use lib.Seq.{getD-drop}
-use borrow.Author.Tests.{eqb-false, ne-eqb}
+use mathlib.Core.Bool.{true, false}
+use lib.Dec.{eqb, leb}
+use lib.ListN.{length, take, drop, getD}
+use lib.Seq.{getD-drop, getD-take}
+use borrow.Author.Tests.{eqb-true, eqb-false, ne-eqb, le-ltb, lt-ltb, le-leb}
 use Rattle.format.specs.Choice.{if_then_else_}
 use Rattle.format.specs.Format.{NONE, nodeWidth, propertyWidth}
 use Rattle.format.specs.Rows.{at, nodesIn, propertiesIn}
 use Rattle.format.specs.Rows as rows
-use Rattle.format.specs.Lookup.{linkGood}
+use Rattle.format.specs.Lookup.{linkGood, linksGood}
 use Rattle.format.proofs.Tools.{tested, if-yes, if-no}
 use Rattle.format.proofs.Reached.{follows}
 use Rattle.lookup.specs.Places.{nodeAt, propertyAt, IsNode, IsProperty}
@@ -68,6 +68,10 @@ property-is zero t k h = absurd (omega arith)
 property-is (suc n) t zero h = refl
 property-is (suc n) t (suc k) h = property-is n (drop 4 t) k (omega arith) ∙ property-shift t k
 
+-- a number of the part of a table from p on
+pub from-part : (t : List ℕ) (p j k : ℕ) → p + j ≡ k → k < length t → getD (take (length t - p) (drop p t)) j 0 ≡ getD t k 0
+from-part t p j k e h = getD-take (length t - p) (drop p t) j 0 (omega (arith, e, h)) ∙ moved t p j k e
+
 -- the numbers that were read are the row's
 pub node-read : (n : ℕ) (t : List ℕ) (r : ℕ) (x : NodeRow) → r < n → IsNode x (nodeAt t r) → IsNode x (at (nodesIn n t) r)
 node-read n t r x h is = rw (node-is n t r h) is
@@ -81,6 +85,32 @@ module _ (R : List rows.NodeRow) where
   -- where a good link leads
   pub leads : (r l : ℕ) → linkGood R r l ≡ true → l ≢ NONE → (r < l) × (l < length R)
   leads r l e n = ⊎-elim (λ same. absurd (n same)) (λ k. (k .above, k .inside)) (follows [] R r l e)
+
+  -- a link of a row below none that leads to no later row is bad
+  pub back-bad : (r l : ℕ) → r < NONE → l ≤ r → linkGood R r l ≡ false
+  unfolding linkGood
+  back-bad r l k h = simp (ne-eqb l NONE (λ e. absurd (omega (arith, k, h, e))), le-ltb r l h)
+
+  -- one to a later row is good if, one more and modulo 2^32, it is within the count: none gives 0
+  pub on-good : (r l n : ℕ) → l < 2 ^ 32 → r < l → length R ≡ n → linkGood R r l ≡ leb ((l + 1) % 2 ^ 32) n
+  unfolding linkGood NONE
+  on-good r l n h o e =
+      tested (eqb l NONE)
+      (λ t. let none : (l + 1) % 2 ^ 32 ≡ 0 = omega (arith, eqb-true l NONE t) in simp (t, none, le-leb 0 n (omega arith)))
+      (λ t. let some : (l + 1) % 2 ^ 32 ≡ suc l = omega (arith, eqb-false l NONE t) in simp (t, some, lt-ltb r l o, e))
+
+  -- both links, of the numbers read
+  pub next-bad : (r l : ℕ) → l ≡ at R r .nextSibling → linkGood R r l ≡ false → linksGood R r ≡ false
+  unfolding linksGood
+  next-bad r l is e = tested (linkGood R r (at R r .firstChild)) (λ t. simp (t, ← is, e)) (λ t. simp t)
+
+  pub child-bad : (r l : ℕ) → l ≡ at R r .firstChild → linkGood R r l ≡ false → linksGood R r ≡ false
+  unfolding linksGood
+  child-bad r l is e = simp (← is, e)
+
+  pub both-good : (r l m : ℕ) → l ≡ at R r .nextSibling → m ≡ at R r .firstChild → linkGood R r l ≡ true → linkGood R r m ≡ true → linksGood R r ≡ true
+  unfolding linksGood
+  both-good r l m is js e f = simp (← is, ← js, e, f)
 
 -- how many rows are ahead of a link
 unfoldable pub ahead : ℕ → ℕ → ℕ

@@ -2,17 +2,19 @@
 ghost use Prim.Native.Nat.{_+_, _*_, _≤_};
 ghost use mathlib.Core.Path.{_≡_};
 ghost use mathlib.Core.Bool.{_&&_};
+ghost use mathlib.Core.Logic.{_≢_};
 ghost use mathlib.Core.List.{List};
 ghost use lib.Dec.{leb};
 ghost use lib.ListN.{length};
 ghost use Prim.Native.Nat.{ℕ};
-ghost use Rattle.format.specs.Format.{nodeWidth, propertyWidth};
+ghost use Rattle.format.specs.Format.{NONE as none, nodeWidth, propertyWidth};
 ghost use Rattle.format.specs.Rows as rows;
 ghost use Rattle.format.specs.Lookup.{linkGood, linksGood, nameInside};
 ghost use Rattle.lookup.specs.Places.{IsNode, IsProperty, nodeAt, propertyAt};
 use loader::NODE_WIDTH;
 use loader::NONE;
 use loader::PROPERTY_WIDTH;
+use std::num::wrapping_add_u32;
 
 // The numbers of a node row that a lookup reads.
 pub(crate) struct NodeRow {
@@ -32,18 +34,20 @@ pub(crate) struct PropRow {
     pub(crate) size: u32,
 }
 
+// A row's place is six times its number and once more: two short sums, where the one product takes the processor longer, and a search
+// waits for it at every row.
 pub(crate) fn node_at(nodes: &[u32], row: usize) -> NodeRow
     requires { ⌜ nodeWidth * (row + 1) ≤ length (now nodes) ⌝ }
     ensures { λ r. ⌜ IsNode r (nodeAt (now (nodes .entry)) row) ⌝ }
 {
-    let at = NODE_WIDTH * row;
+    let part = &nodes[(NODE_WIDTH - 1) * row..];
     NodeRow {
-        name: nodes[at],
-        len: nodes[at + 1],
-        child: nodes[at + 3],
-        next: nodes[at + 4],
-        first: nodes[at + 5],
-        count: nodes[at + 6],
+        name: part[row],
+        len: part[row + 1],
+        child: part[row + 3],
+        next: part[row + 4],
+        first: part[row + 5],
+        count: part[row + 6],
     }
 }
 
@@ -74,6 +78,18 @@ fn link_is_good(link: u32, row: usize, count: usize) -> bool
     to < count
 }
 
+// The same of a row that a link led to. One more than none is 0, so both tests go the same way for every good link, and the processor
+// need not guess whether there is one.
+fn leads_on(link: u32, row: u32, count: usize) -> bool
+    requires { ⌜ row ≢ none ⌝ }
+    ensures { λ r. ⌜ ((R : List rows.NodeRow) → length R ≡ count → r ≡ linkGood R row link) ⌝ }
+{
+    if link <= row {
+        return false;
+    }
+    wrapping_add_u32(link, 1) as usize <= count
+}
+
 // Whether both links of the row are good.
 pub(crate) fn links_are_good(node: NodeRow, row: usize, count: usize) -> bool
     ensures { λ r. ⌜ ((R : List rows.NodeRow) → length R ≡ count → IsNode node (rows.at R row) → r ≡ linksGood R row) ⌝ }
@@ -91,12 +107,16 @@ pub(crate) fn lies_in(start: u32, len: u32, whole: usize) -> bool
     start as usize + len as usize <= whole
 }
 
-// Whether both links are good and the name lies in a blob of that length.
-pub(crate) fn row_is_good(node: NodeRow, row: usize, count: usize, whole: usize) -> bool
+// Whether both links are good and the name lies in a blob of that length. The next row's number is read first: what follows waits for it.
+pub(crate) fn row_is_good(node: NodeRow, row: u32, count: usize, whole: usize) -> bool
+    requires { ⌜ row ≢ none ⌝ }
     ensures { λ r. ⌜ ((b : List ℕ) (R : List rows.NodeRow) → length b ≡ whole → length R ≡ count → IsNode node (rows.at R row)
         → r ≡ (linksGood R row && nameInside b R row)) ⌝ }
 {
-    if !links_are_good(node, row, count) {
+    if !leads_on(node.next, row, count) {
+        return false;
+    }
+    if !leads_on(node.child, row, count) {
         return false;
     }
     lies_in(node.name, node.len, whole)

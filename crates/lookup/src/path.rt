@@ -45,7 +45,7 @@ fn child_named(
         }
         let row = link as usize;
         let node = node_at(nodes, row);
-        if !row_is_good(node, row, count, s.len()) {
+        if !row_is_good(node, link, count, s.len()) {
             return Child::Unusable;
         }
         if same_part(s, node.name, node.len, path, at, end) {

@@ -103,6 +103,7 @@ returns-3 c goal low x =
     (kid-here _ _ _ _ is good goal _ (kids-some _ _ _ _ _ _ (inv .1 goal low x .1) (some .if1 .left)) (sym (c .before .same-part .ensures) ∙ c .if3 .taken), is .child)
 
 pub child-named-spec : {M : Type 1} → statement M
+unfolding NONE
 child-named-spec =
     tie.close
     (tie.spec
@@ -112,7 +113,7 @@ child-named-spec =
     returns
     cast-row
     node-at-requires
-    (λ c κs. search needs)
+    (λ c κs. c .before .if1 .left)
     returns-2
     same-part-requires
     children-less
