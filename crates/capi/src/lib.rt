@@ -1,5 +1,5 @@
-// What C and Rust link: load, measure and the lookups on plain slices. A call's answer goes to `answer` as document 01's numbers, from its start,
-// as many as it has room for (6 are enough); what follows them stays as it was.
+// What C and Rust link: load, measure, the lookups and the readers on plain slices. A call's answer goes to `answer` as document 01's
+// numbers, from its start, as many as it has room for (6 are enough); what follows them stays as it was.
 ghost use mathlib.Core.List.{_∷_, []};
 ghost use mathlib.Core.Path.{_≡_};
 ghost use lib.ListN.{set};
@@ -10,6 +10,7 @@ ghost use Rattle.loader.specs.Survey.{loadedNumbers, lent};
 ghost use Rattle.capi.specs.Linked.{Linked, Measured};
 
 mod lookups;
+mod readers;
 
 use loader::DeviceTree;
 use loader::DeviceTreeError;
@@ -31,12 +32,28 @@ pub(crate) fn put_code(answer: &mut [u64], code: u64)
     put(answer, 0, code);
 }
 
-// An answer that carries one number: a refusal its position or the rows needed, a lookup its row.
+// An answer that carries one number: a refusal its position or the rows needed, a lookup its row, `align` its position.
 pub(crate) fn put_place(answer: &mut [u64], code: u64, at: usize)
     ensures { λ _. ⌜ now (answer .exit) ≡ sets (now (answer .entry)) 0 (code ∷ at ∷ []) ⌝ }
 {
     put(answer, 0, code);
     put(answer, 1, at as u64);
+}
+
+// 0 and a number.
+pub(crate) fn put_number(answer: &mut [u64], n: u64)
+    ensures { λ _. ⌜ now (answer .exit) ≡ sets (now (answer .entry)) 0 (0 ∷ n ∷ []) ⌝ }
+{
+    put(answer, 0, 0);
+    put(answer, 1, n);
+}
+
+// 0 and a part, by its place.
+pub(crate) fn put_part(answer: &mut [u64], start: usize, len: usize)
+    ensures { λ _. ⌜ now (answer .exit) ≡ sets (now (answer .entry)) 0 (0 ∷ start ∷ len ∷ []) ⌝ }
+{
+    put_place(answer, 0, start);
+    put(answer, 2, len as u64);
 }
 
 fn put_refusal(answer: &mut [u64], why: DeviceTreeError)

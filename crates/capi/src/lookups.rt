@@ -7,8 +7,9 @@ ghost use Rattle.format.specs.Answer.{numbers, itself, nothing, place};
 ghost use Rattle.format.specs.Lookup.{find-from, find, has-prop, prop-raw, prop-str, prop-u32, prop-u64};
 ghost use Rattle.lookup.specs.Answers.{lent, foundNumbers, hasNumbers, valueNumbers, whyNumbers, textNumbers, number32Numbers, number64Numbers};
 ghost use Rattle.capi.specs.Linked.{Told};
-use crate::put;
 use crate::put_code;
+use crate::put_number;
+use crate::put_part;
 use crate::put_place;
 use lookup::Found;
 use lookup::Has;
@@ -17,22 +18,6 @@ use lookup::Number64;
 use lookup::PropError;
 use lookup::Text;
 use lookup::Value;
-
-// 0 and a number.
-fn put_number(answer: &mut [u64], n: u64)
-    ensures { λ _. ⌜ now (answer .exit) ≡ sets (now (answer .entry)) 0 (0 ∷ n ∷ []) ⌝ }
-{
-    put(answer, 0, 0);
-    put(answer, 1, n);
-}
-
-// 0 and a part, by its place.
-fn put_part(answer: &mut [u64], start: usize, len: usize)
-    ensures { λ _. ⌜ now (answer .exit) ≡ sets (now (answer .entry)) 0 (0 ∷ start ∷ len ∷ []) ⌝ }
-{
-    put_place(answer, 0, start);
-    put(answer, 2, len as u64);
-}
 
 fn put_found(answer: &mut [u64], r: Found)
     ensures { λ _. ⌜ now (answer .exit) ≡ sets (now (answer .entry)) 0 (foundNumbers r) ⌝ }

@@ -1,8 +1,8 @@
 -- `put_number` meets its contract: two numbers, one after the other. Assumes nothing.
 use Rattle.capi.proofs.Puts.{next}
 use borrow.Author.Needs.{needs}
-use Rattle.capi.proofs.lookups.put_number.Statement.{statement}
-use Rattle.capi.proofs.lookups.put_number.Tie as tie
+use Rattle.capi.proofs.put_number.Statement.{statement}
+use Rattle.capi.proofs.put_number.Tie as tie
 
 returns : tie.Need-returns
 returns c =

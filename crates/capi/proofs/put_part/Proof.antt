@@ -1,8 +1,8 @@
 -- `put_part` meets its contract: one number after two others. Assumes nothing.
 use Rattle.capi.proofs.Puts.{next}
 use borrow.Author.Needs.{needs}
-use Rattle.capi.proofs.lookups.put_part.Statement.{statement}
-use Rattle.capi.proofs.lookups.put_part.Tie as tie
+use Rattle.capi.proofs.put_part.Statement.{statement}
+use Rattle.capi.proofs.put_part.Tie as tie
 
 returns : tie.Need-returns
 returns c =
