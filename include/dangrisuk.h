@@ -130,8 +130,8 @@ enum dangrisuk_property {
  *       first of size 0; the word where a token is due; a node's name with its zero byte; a property's size, name offset, or name
  *       with its zero byte. Or a property's value ends, offset plus size, not below the blob's length: no value holds the last byte.
  *   4, position
- *       the word at the structure offset is not 1 (a node opens), or a node that has neither a further property (3) nor a further
- *       child (1) there does not close (2). NOP (4) is not skipped.
+ *       the word at the structure offset is not 1 (a node opens); or the word behind a node's properties (3) and then its children
+ *       (1) is not 2 (it closes). So a property behind a child is refused, and NOP (4) is not skipped.
  *   5   a property's name is not UTF-8, judged when it is read; or a node's name is not, judged when the node has closed.
  *   6   the word at 20 is not 17.
  *   7, position
@@ -170,7 +170,7 @@ void dangrisuk_measure(const uint8_t *blob, size_t blob_len, uint64_t *answer, s
  * blob      what was loaded
  * nodes     its node table
  * count     how many of its rows are used
- * path      `/` and the names of nodes, each before the next `/`. `/` alone is the root; one `/` at the end changes nothing.
+ * path      `/` and the names of nodes, with `/` between them. `/` alone is the root; one `/` behind the last name changes nothing.
  *
  * Each name leads to the first child of exactly those bytes, unit address included; a later child of that name is not tried.
  *
@@ -190,7 +190,7 @@ void dangrisuk_find(const uint8_t *blob, size_t blob_len, const uint32_t *nodes,
  *
  * blob, nodes, count   as for dangrisuk_find
  * row       the node to start from
- * path      the names of nodes, each before the next `/`, without a `/` in front. The empty path is the node itself.
+ * path      as for dangrisuk_find, but without its first `/`. The empty path is the node itself.
  *
  * returns, in answer, the first of these that holds:
  *   15      count is more than nodes_len / 7, or row is not below count.
