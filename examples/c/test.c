@@ -15,6 +15,7 @@ int main(int argc, char **argv)
         printf("usage: test SAMPLES\n");
         return 2;
     }
+    setvbuf(stdout, NULL, _IOLBF, 0);
     make_room();
     test_answer_names();
     test_row_names();

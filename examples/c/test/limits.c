@@ -6,6 +6,7 @@ void test_layout(void)
     static const uint32_t twins[] = {1, 0, 1, 0x61000000, 2, 1, 0x61000000, 1, 0x63000000, 2, 2, 2};
     static const uint32_t last_byte[] = {1, 0, 3, 4, 0};
     static const uint32_t odd[] = {0x00000000, 0x01000000, 2};
+    static const uint32_t late[] = {1, 0, 1, 0x61000000, 2, 3, 0, 0, 2};
     frame_of(twins, COUNT(twins), NULL, 0);
     expect_load("two children of one name", NUMBERS(0, 17, 0, 1, 4, 0));
     expect_find("/a", NUMBERS(0, 1));
@@ -18,6 +19,8 @@ void test_layout(void)
     frame_of(odd, COUNT(odd), NULL, 0);
     set_word(8, 57);
     expect_load("a structure block at 57", NUMBERS(0, 17, 0, 1, 1, 0));
+    frame_of(late, COUNT(late), "", 1);
+    expect_load("a property behind a child", NUMBERS(4, 76));
 }
 
 void test_depth(void)
