@@ -203,18 +203,18 @@ impl Node {
         Ok(Node { name: str::from_utf8(tables.name(row))?.to_owned(), props, children, tables: tables.clone(), row })
     }
 
-    // The node of a row at or below this one. Rows stand in the order of opening tokens, so the way down is by the last child
-    // that is not past it.
+    // The child of a row: in its place, unless the program has moved the children about.
+    fn child(&self, row: usize) -> Option<&Node> {
+        let is = |child: &&Node| child.row == row && Arc::ptr_eq(&child.tables, &self.tables);
+        self.children.get(self.tables.place(row)).filter(is).or_else(|| self.children.iter().find(is))
+    }
+
+    // The node of a row at or below this one, at most 16 levels down.
     fn below(&self, row: usize) -> Option<&Node> {
-        let mut node = self;
-        while node.row != row {
-            let after = node.children.partition_point(|child| child.row <= row);
-            node = node.children.get(after.checked_sub(1)?)?;
-            if !Arc::ptr_eq(&node.tables, &self.tables) {
-                return None;
-            }
+        if row == self.row {
+            return Some(self);
         }
-        Some(node)
+        self.below(self.tables.parent(row)?)?.child(row)
     }
 
     /// The node that a path leads to from this one, such as `i2c@7e205000/sensor@48`. The empty path is this node.

@@ -7,10 +7,16 @@ use alloc::vec::Vec;
 // "None" in a table.
 const NONE: u32 = u32::MAX;
 
+fn link(to: u32) -> Option<usize> {
+    (to != NONE).then_some(to as usize)
+}
+
 pub(crate) struct Tables {
     blob: Box<[u8]>,
     nodes: Box<[[u32; 7]]>,
     props: Box<[[u32; 4]]>,
+    // The place of each node among its parent's children.
+    places: Box<[u32]>,
 }
 
 /// What a load hands out besides the nodes.
@@ -30,13 +36,23 @@ impl Tables {
             blob: buffer.into(),
             nodes: vec![[0; 7]; nodes as usize].into(),
             props: vec![[0; 4]; props as usize].into(),
+            places: Box::default(),
         };
         let loaded = ffi::load(&tables.blob, &mut reserved, &mut tables.nodes, &mut tables.props);
         if loaded != measured {
             return Err(loaded);
         }
+        tables.places = tables.placed();
         let reserved = reserved.iter().map(|&[offset, size]| (offset, size)).collect();
         Ok((Head { version: version as u32, boot_cpuid_phys: boot as u32, reserved }, tables))
+    }
+
+    fn placed(&self) -> Box<[u32]> {
+        let mut places = vec![0; self.nodes.len()];
+        for row in 0..self.nodes.len() {
+            (0..).zip(self.children(row)).for_each(|(place, child)| places[child] = place);
+        }
+        places.into()
     }
 
     fn bytes(&self, offset: u32, len: u32) -> &[u8] {
@@ -65,9 +81,18 @@ impl Tables {
         self.props_of(row).iter().map(|&[name, len, value, size]| (self.bytes(name, len), self.bytes(value, size)))
     }
 
+    /// A node's parent; the root has none.
+    pub(crate) fn parent(&self, row: usize) -> Option<usize> {
+        link(self.nodes[row][2])
+    }
+
+    /// A node's place among its parent's children.
+    pub(crate) fn place(&self, row: usize) -> usize {
+        self.places[row] as usize
+    }
+
     /// The rows of a node's children.
     pub(crate) fn children(&self, row: usize) -> impl Iterator<Item = usize> + '_ {
-        let link = |to: u32| (to != NONE).then_some(to as usize);
         let [_, _, _, first, ..] = self.nodes[row];
         core::iter::successors(link(first), move |&child| link(self.nodes[child][4]))
     }

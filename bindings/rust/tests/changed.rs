@@ -68,8 +68,8 @@ fn a_node_of_another_tree() {
 fn another_order_and_none() {
     let mut dt = tree();
     dt.root.children.reverse();
-    for path in ["/", "/a", "/a/x", "/a/y", "/b", "/b/x"] {
-        let _ = number(&dt, path);
+    for (row, path) in ["/", "/a", "/a/x", "/a/y", "/b", "/b/x"].iter().enumerate() {
+        assert_eq!(number(&dt, path), Some(row as u32), "{path}");
     }
     dt.root.children.clear();
     assert!(dt.find("/a").is_none());
