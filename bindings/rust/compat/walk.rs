@@ -32,10 +32,30 @@ fn owned(node: Node) -> Vec<String> {
     all
 }
 
+// Methods of the program's own, whatever the crate calls its private ones.
+trait More {
+    fn of(&self) -> usize;
+    fn child(&self, name: &str) -> Option<&Node>;
+    fn below(&self, name: &str) -> usize;
+}
+
+impl More for Node {
+    fn of(&self) -> usize {
+        self.props.len()
+    }
+    fn child(&self, name: &str) -> Option<&Node> {
+        self.children.iter().find(|child| child.name == name)
+    }
+    fn below(&self, name: &str) -> usize {
+        self.child(name).map_or(0, |child| child.children.len())
+    }
+}
+
 fn main() {
     let b = std::fs::read(std::env::args().nth(1).unwrap()).unwrap();
     let dt = DeviceTree::load(&b).unwrap();
     show(&dt.root, 0);
+    println!("{} {} {}", dt.root.of(), dt.root.child("cpus").is_some(), dt.root.below("cpus"));
     let mut compatible = Vec::new();
     having(&dt.root, "", "compatible", &mut compatible);
     for (path, node) in compatible {
