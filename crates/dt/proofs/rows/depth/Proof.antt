@@ -1,0 +1,27 @@
+-- `dt::rows::depth` meets its contract and ends: it takes 15 steps at most. Assumes nothing.
+use borrow.Author.Needs.{needs}
+use Prim.Native.Nat.{_≤_, _-_}
+use Rattle.dt.proofs.rows.depth.Statement.{statement}
+use Rattle.dt.proofs.rows.depth.Tie as tie
+
+abbrev Inv-loop : tie.InvT-loop
+Inv-loop nodes row link₀ depth₀ link depth = depth ≤ 15
+
+abbrev μ-loop : tie.MeasureT-loop
+μ-loop nodes row link₀ depth₀ link depth = 15 - depth
+
+pub depth-spec : {M : Type 1} → statement M
+depth-spec =
+    tie.close
+    (tie.spec
+    Inv-loop
+    μ-loop
+    (λ c κs. search needs)
+    (λ c. search needs)
+    (λ c. search needs)
+    (λ c κs. search needs)
+    (λ c. search needs)
+    (λ c. search needs)
+    (λ c. search needs)
+    (λ c. search needs)
+    (λ c. search needs))

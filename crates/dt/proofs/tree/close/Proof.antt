@@ -1,0 +1,26 @@
+-- `dt::tree::close` is safe and ends: each turn closes a node. Assumes nothing.
+use borrow.Author.Needs.{needs}
+use mathlib.Core.Path.{_≡_}
+use lib.ListN.{length}
+use Rattle.dt.proofs.tree.close.Statement.{statement}
+use Rattle.dt.proofs.tree.close.Tie as tie
+
+abbrev Inv-loop : tie.InvT-loop
+Inv-loop text₀ many until out₀ left₀ text out left = length text ≡ length text₀
+
+abbrev μ-loop : tie.MeasureT-loop
+μ-loop text₀ many until out₀ left₀ text out left = left
+
+pub close-spec : {M : Type 1} → statement M
+close-spec =
+    tie.close
+    (tie.spec
+    Inv-loop
+    μ-loop
+    (λ c. search needs)
+    (λ c. search needs)
+    (λ c κs. search needs)
+    (λ c. search needs)
+    (λ c. search needs)
+    (λ c. search needs)
+    (λ c. search needs))
