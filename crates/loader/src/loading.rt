@@ -3,6 +3,7 @@ ghost use mathlib.Core.Path.{_≡_};
 ghost use Rattle.format.specs.Load.{Loads, Measures};
 ghost use Rattle.loader.specs.Survey.{headerOutcome, headerOf, surveyOutcome, surveyOf, loadedNumbers, lent};
 use crate::Block;
+use crate::DEPTH;
 use crate::DeviceTree;
 use crate::DeviceTreeError;
 use crate::Loaded;
@@ -22,9 +23,6 @@ use reader::Word;
 const MAGIC_NUMBER: u32 = 0xd00dfeed;
 
 const SUPPORTED_VERSION: u32 = 17;
-
-// How deep nodes may nest; the root is at depth 1.
-const DEPTH: usize = 16;
 
 // The header's words that a load needs.
 struct Header {
