@@ -92,7 +92,7 @@ fn reader(letter: &[u8], fields: &[&[u8]]) -> Option<Answer> {
 // A blob loaded, a path found in it, and the properties there.
 fn loaded(blob: &[u8], path: &[u8], name: &[u8]) -> Option<Vec<Answer>> {
     let (b, path, name) = (bytes(blob, FRAME)?, bytes(path, NAME)?, bytes(name, NAME)?);
-    Some(lookups::due(&b, ROOM, Some(&Asked { path, name })))
+    Some(lookups::due(&b, ROOM, Some(&[Asked { path, name }])))
 }
 
 // Lookups in rows from elsewhere, by document 01's words.

@@ -173,19 +173,19 @@ pub fn endings(c: &mut Comparison) {
 }
 
 pub fn trees(c: &mut Comparison) {
-    for _ in 0..c.scale * 500_000 {
+    for _ in 0..c.portion(500_000) {
         let b = random_blob(&mut c.random);
-        c.blob(b);
+        c.take(b);
     }
 }
 
 pub fn damaged_copies(c: &mut Comparison) {
     let good = varied();
-    for _ in 0..c.scale * 1_000_000 {
+    for _ in 0..c.portion(1_000_000) {
         let r = &mut c.random;
         let from = if r.once_in(2) { good[r.below(good.len())].clone() } else { random_blob(r) };
         let b = damaged(r, &from);
-        c.blob(b);
+        c.take(b);
     }
 }
 
@@ -279,7 +279,7 @@ pub fn lines(c: &mut Comparison) {
             c.line(s.clone());
         }
     }
-    for _ in 0..c.scale * 20_000 {
+    for _ in 0..c.portion(20_000) {
         let r = &mut c.random;
         let blob = random_blob(r);
         let mut line = hex(&blob);
@@ -334,15 +334,25 @@ fn findable() -> Vec<Vec<u8>> {
 
 // Every path and every name of the varied blobs, of some for the purpose and of random ones, and those close to them.
 pub fn lookups(c: &mut Comparison) {
-    let random: Vec<Vec<u8>> = (0..c.scale * 40).map(|_| random_blob(&mut c.random)).collect();
-    for b in [findable(), varied(), random].concat() {
-        let Ok(rows) = scope::read(&b, DEPTH) else { continue };
-        let paths = with_close((0..rows.nodes.len()).map(|row| asks::tree_path(&b, &rows, row)).collect());
-        let names = (0..rows.props.len()).map(|prop| asks::name(&b, &rows, prop).to_vec());
-        let names = with_close(names.chain([b"u".to_vec()]).collect());
-        for path in &paths {
-            names.iter().for_each(|name| c.ask(&b, Asked { path: path.clone(), name: name.clone() }));
+    for b in [findable(), varied()].concat() {
+        if c.my_turn() {
+            every_lookup(c, &b);
         }
+    }
+    for _ in 0..c.portion(40) {
+        let b = random_blob(&mut c.random);
+        every_lookup(c, &b);
+    }
+}
+
+fn every_lookup(c: &mut Comparison, b: &[u8]) {
+    let Ok(rows) = scope::read(b, DEPTH) else { return };
+    let paths = with_close((0..rows.nodes.len()).map(|row| asks::tree_path(b, &rows, row)).collect());
+    let names = (0..rows.props.len()).map(|prop| asks::name(b, &rows, prop).to_vec());
+    let names = with_close(names.chain([b"u".to_vec()]).collect());
+    for path in &paths {
+        let asked = names.iter().map(|name| Asked { path: path.clone(), name: name.clone() });
+        c.ask(b.to_vec(), asked.collect());
     }
 }
 

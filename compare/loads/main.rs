@@ -1,4 +1,5 @@
-// The original beside the new reader, at scale.
+// The original beside the new reader, at scale. BLOB is a file, or a folder with .dtb files.
+//   loads library SEED SCALE [BLOB..]                         ask the static library, where it is built in
 //   loads compare PROGRAM frames|queries SEED SCALE [BLOB..]   ask PROGRAM, by that program's lines
 //   loads stored                                              write the stored lines
 //   loads answer                                              answer lines by the original
@@ -7,7 +8,13 @@ extern crate device_tree;
 mod asks;
 mod blobs;
 mod compare;
+#[cfg(library)]
+mod files;
+#[cfg(library)]
+mod found;
 mod kinds;
+#[cfg(library)]
+mod library;
 mod lines;
 #[allow(dead_code)]
 mod lookups;
@@ -19,17 +26,17 @@ mod scope;
 mod stored;
 mod tree;
 
-use compare::Comparison;
-use ours::{Program, Speaks};
+use compare::{Comparison, Counts, Share};
+use ours::{Ours, Program, Speaks};
 use std::io::{self, BufRead, BufWriter, Write};
+use std::path::Path;
+use std::thread;
 
-fn compare(args: &[String]) {
-    let [program, speaks, seed, scale, real @ ..] = args else {
-        panic!("compare PROGRAM frames|queries SEED SCALE [BLOB..]")
-    };
-    let speaks = if speaks == "queries" { Speaks::Queries } else { Speaks::Frames };
-    let ours = Program::start(program, speaks);
-    let mut c = Comparison::new(ours, seed.parse().expect("a seed"), scale.parse().expect("a scale"));
+// The original goes one call deeper for each node inside another.
+const STACK: usize = 1 << 28;
+
+// The kinds of input, all that the side that is asked can be asked.
+fn made(c: &mut Comparison, speaks: Speaks) {
     c.run("headers", 1, kinds::headers);
     c.run("cut", 1, kinds::cut);
     c.run("two words", 1, kinds::two_words);
@@ -38,35 +45,99 @@ fn compare(args: &[String]) {
     c.run("rooms", 4, kinds::rooms);
     c.run("single words", 1, kinds::single_words);
     c.run("single bytes", 1, kinds::single_bytes);
-    c.run("trees", 4, kinds::trees);
+    c.run("trees", if speaks == Speaks::Library { 1 } else { 4 }, kinds::trees);
     c.run("damaged", 1, kinds::damaged_copies);
-    match speaks {
-        Speaks::Frames => {
-            c.run("lines", 1, kinds::lines);
-            c.run("short", 1, kinds::short);
+    if speaks != Speaks::Frames {
+        c.run("lookups", 1, kinds::lookups);
+    }
+    if speaks == Speaks::Frames {
+        c.run("lines", 1, kinds::lines);
+    }
+    if speaks != Speaks::Queries {
+        c.run("short", 1, kinds::short);
+    }
+}
+
+fn compare(args: &[String]) {
+    let [program, speaks, seed, scale, real @ ..] = args else {
+        panic!("compare PROGRAM frames|queries SEED SCALE [BLOB..]")
+    };
+    let speaks = if speaks == "queries" { Speaks::Queries } else { Speaks::Frames };
+    let ours: Box<dyn Ours> = Box::new(Program::start(program, speaks));
+    let (seed, scale) = (seed.parse().expect("a seed"), scale.parse().expect("a scale"));
+    let mut c = Comparison::new(ours, Share { mine: 0, of: 1 }, seed, scale);
+    made(&mut c, speaks);
+    let files = files_of(real);
+    if !files.is_empty() {
+        c.run("real", 1, |c| c.real(&files));
+    }
+    report(&[c.counts]);
+}
+
+// Two threads, each with its half of every kind.
+#[cfg(library)]
+fn linked(args: &[String]) {
+    let [seed, scale, real @ ..] = args else { panic!("library SEED SCALE [BLOB..]") };
+    let (seed, scale) = (seed.parse().expect("a seed"), scale.parse().expect("a scale"));
+    let files = &files_of(real);
+    let half = |mine: usize| {
+        let mut c = Comparison::new(Box::new(library::Linked::with(lines::ROOM)), Share { mine, of: 2 }, seed, scale);
+        if !files.is_empty() {
+            c.run("real", 10, |c| files::real(c, files));
         }
-        Speaks::Queries => c.run("lookups", 1, kinds::lookups),
+        made(&mut c, Speaks::Library);
+        c.counts
+    };
+    let halves = thread::scope(|scope| {
+        let start = |mine| thread::Builder::new().stack_size(STACK).spawn_scoped(scope, move || half(mine)).unwrap();
+        [0, 1].map(start).map(|half| half.join().unwrap_or_else(|_| std::process::exit(2)))
+    });
+    println!("real files: {}", files.len());
+    report(&halves);
+}
+
+#[cfg(not(library))]
+fn linked(_: &[String]) {
+    panic!("built without the static library");
+}
+
+// The files given, and those in the folders given.
+fn files_of(given: &[String]) -> Vec<String> {
+    let mut files = Vec::new();
+    for name in given {
+        match std::fs::read_dir(name) {
+            Err(_) => files.push(name.clone()),
+            Ok(folder) => {
+                let inside = folder.map(|entry| entry.expect(name).path());
+                let wanted = |path: &Path| path.is_dir() || path.extension().is_some_and(|end| end == "dtb");
+                let mut names: Vec<String> =
+                    inside.filter(|path| wanted(path)).map(|path| path.display().to_string()).collect();
+                names.sort();
+                files.extend(files_of(&names));
+            }
+        }
     }
-    if !real.is_empty() {
-        c.real(real);
-    }
-    let kinds: Vec<String> = c.counts.iter().map(|(kind, count)| format!("{kind} {count}")).collect();
-    println!("answers: {}", numbered(&c.answers));
-    if speaks == Speaks::Queries {
-        println!("lookups' answers: {}", numbered(&c.lookups));
-    }
-    println!(
-        "compared {}: {}; lookups {}; differences 0",
-        c.counts.iter().map(|(_, count)| count).sum::<usize>(),
-        kinds.join(", "),
-        c.lookups.iter().sum::<usize>()
-    );
+    files
 }
 
 // How often each number came.
-fn numbered(answers: &[usize; 17]) -> String {
-    let counts = answers.iter().enumerate().filter(|(_, count)| **count != 0);
+fn numbered(parts: &[Counts], of: fn(&Counts) -> &[usize; 17]) -> String {
+    let count = |number: usize| parts.iter().map(|part| of(part)[number]).sum::<usize>();
+    let counts = (0..17).map(|number| (number, count(number))).filter(|(_, count)| *count != 0);
     counts.map(|(number, count)| format!("{number}: {count}")).collect::<Vec<_>>().join(", ")
+}
+
+fn report(parts: &[Counts]) {
+    let kind = |k: usize| parts.iter().map(|part| part.kinds[k].1).sum::<usize>();
+    let kinds: Vec<(&str, usize)> = (0..parts[0].kinds.len()).map(|k| (parts[0].kinds[k].0, kind(k))).collect();
+    let listed: Vec<String> = kinds.iter().map(|(kind, count)| format!("{kind} {count}")).collect();
+    let lookups: usize = parts.iter().flat_map(|part| part.lookups).sum();
+    println!("answers: {}", numbered(parts, |part| &part.answers));
+    if lookups != 0 {
+        println!("lookups' answers: {}", numbered(parts, |part| &part.lookups));
+    }
+    let all: usize = kinds.iter().map(|(_, count)| count).sum();
+    println!("compared {all}: {}; lookups {lookups}; differences 0", listed.join(", "));
 }
 
 fn answer() -> io::Result<()> {
@@ -81,12 +152,12 @@ fn answer() -> io::Result<()> {
 fn main() {
     let args: Vec<String> = std::env::args().skip(1).collect();
     original::quiet();
-    // The original goes one call deeper for each node inside another.
-    let work = std::thread::Builder::new().stack_size(1 << 28).spawn(move || match args.first().map(String::as_str) {
+    let work = thread::Builder::new().stack_size(STACK).spawn(move || match args.first().map(String::as_str) {
+        Some("library") => linked(&args[1..]),
         Some("compare") => compare(&args[1..]),
         Some("stored") => io::stdout().write_all(&stored::text()).unwrap(),
         Some("answer") => answer().unwrap(),
-        _ => panic!("compare, stored or answer"),
+        _ => panic!("library, compare, stored or answer"),
     });
     if work.unwrap().join().is_err() {
         std::process::exit(2);

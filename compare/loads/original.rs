@@ -1,5 +1,5 @@
 // The original's answers as document 01's numbers and rows. 7 to 10 are not the original's: they come from its tree.
-use crate::scope::{self, align, Refusal, Room, Rows, DEPTH, NONE};
+use crate::scope::{self, align, Refusal, Rows, DEPTH, NONE};
 use device_tree::util::SliceReadError;
 use device_tree::{DeviceTree, DeviceTreeError, Node};
 use std::panic::{catch_unwind, set_hook, AssertUnwindSafe};
@@ -85,15 +85,15 @@ pub struct Loaded {
     pub rows: Rows,
 }
 
-// The load that is due, by the original.
-pub fn load(b: &[u8], room: Room) -> Result<Loaded, Refusal> {
+// What is due, by the original, where there is room enough.
+pub fn read(b: &[u8]) -> Result<Loaded, Refusal> {
     match tree(b) {
         Ok(tree) => {
             let mut laid = Laid { b, rows: Rows::default() };
             laid.rows.boot = tree.boot_cpuid_phys as u64;
             laid.rows.reserved = tree.reserved.iter().map(|(offset, size)| [*offset, *size]).collect();
             laid.node(&tree.root, word(b, 8), 1, NONE)?;
-            Ok(Loaded { rows: scope::room(laid.rows, room)?, tree })
+            Ok(Loaded { rows: laid.rows, tree })
         }
         // A refusal that the original meets below the depth is not ours: document 01's reading says whether it is.
         Err(why) => match scope::read(b, DEPTH) {

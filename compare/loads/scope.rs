@@ -4,7 +4,7 @@ pub const NONE: u64 = 4294967295;
 pub const DEPTH: usize = 16;
 
 // How many rows each table has room for.
-#[derive(Clone, Copy)]
+#[derive(Clone, Copy, PartialEq)]
 pub struct Room {
     pub reservations: usize,
     pub nodes: usize,
@@ -154,7 +154,7 @@ pub fn read(b: &[u8], depth: usize) -> Result<Rows, Refusal> {
 }
 
 // "Room is judged after everything else has passed, in the order 8, 9, 10."
-pub fn room(rows: Rows, room: Room) -> Result<Rows, Refusal> {
+pub fn room(rows: &Rows, room: Room) -> Result<(), Refusal> {
     for (number, needed, has) in [
         (8, rows.reserved.len(), room.reservations),
         (9, rows.nodes.len(), room.nodes),
@@ -164,5 +164,5 @@ pub fn room(rows: Rows, room: Room) -> Result<Rows, Refusal> {
             return Err(vec![number, needed as u64]);
         }
     }
-    Ok(rows)
+    Ok(())
 }

@@ -1,13 +1,13 @@
 // Lookups in the rows of one blob by all who answer them: document 01's words, the library, and the original where the rows are those
 // of its load.
 use crate::asks;
-use crate::library::{six, Library};
+use crate::compare::Counts;
+use crate::library::Library;
 use crate::lookups::{Answer, Lookups};
 use crate::random::Random;
 use crate::rows::Lent;
 use crate::scope::{Rows, NONE};
 use crate::tree::Tree;
-use crate::Counts;
 
 enum Question<'a> {
     Find(&'a [u8]),
@@ -45,25 +45,15 @@ impl Sides<'_> {
         let due = question.put(&self.lent);
         let original = self.original.map(|tree| question.put(tree));
         let ours = question.put(&Library(&self.lent));
-        c.lookups += due.len() as u64;
-        let agree = due.iter().zip(&ours).all(|(due, ours)| six(due) == *ours);
-        if !agree || original.as_ref().is_some_and(|original| *original != due) {
-            c.differ += 1;
-            println!(
-                "differs: {}, {}: document 01 {due:?}, original {original:?}, ours {ours:?}",
-                self.what,
-                question.text()
-            );
+        due.iter().for_each(|answer| c.lookups[answer[0].min(16) as usize] += 1);
+        if due != ours || original.as_ref().is_some_and(|original| *original != due) {
+            println!("{}: a difference at {}:", self.what, question.text());
+            println!("original:    {original:?}");
+            println!("document 01: {due:?}");
+            println!("ours:        {ours:?}");
+            println!("stopped at the first difference");
+            std::process::exit(1);
         }
-    }
-
-    // One random path and name, from the tree and from rows that may be unfit for them.
-    pub fn some(&self, rows: &Rows, random: &mut Random, c: &mut Counts) {
-        let asked = asks::some(random, self.lent.b, rows, usize::MAX);
-        let row = random.below(rows.nodes.len());
-        self.compare(Question::Find(&asked.path), c);
-        self.compare(Question::FindFrom(row, &asked.path[asked.path.len().min(1)..]), c);
-        self.compare(Question::Properties(row, &asked.name), c);
     }
 
     // Every node by its path from the tree and from a node above it, and by paths close to those; every property of every node.

@@ -1,6 +1,8 @@
 // The static library's calls on plain slices: a slice goes as a pointer and a count of its elements. An answer has room for 6 numbers.
-use crate::lookups::{Answer, Lookups};
+use crate::lookups::{self, Answer, Asked, Lookups, Said};
+use crate::ours::{Input, Ours, Speaks, Told};
 use crate::rows::Lent;
+use crate::scope::Room;
 
 #[rustfmt::skip]
 extern "C" {
@@ -40,28 +42,51 @@ macro_rules! property_calls {
 
 property_calls! { dangrisuk_has_prop dangrisuk_prop_raw dangrisuk_prop_str dangrisuk_prop_u32 dangrisuk_prop_u64 }
 
-// What stands in an answer before a call, and in the places that a call leaves alone.
-const BEFORE: u64 = 99;
+// What stands in an answer before a call and in the places that a call leaves alone, and what follows an answer where a load wrote more
+// than its rows: no number of any answer.
+const UNSAID: u64 = 0x9999_9999_9999_9999;
 
-// An answer's numbers in their six places.
-pub fn six(numbers: &[u64]) -> Answer {
-    (0..6).map(|k| numbers.get(k).copied().unwrap_or(BEFORE)).collect()
-}
-
-// All six places after a call.
+// The numbers that a call wrote, from the first place on.
 fn told(call: impl FnOnce(*mut u64, usize)) -> Answer {
-    let mut answer = six(&[]);
+    let mut answer = vec![UNSAID; 6];
     call(answer.as_mut_ptr(), answer.len());
+    let said = answer.iter().rposition(|n| *n != UNSAID).map_or(0, |last| last + 1);
+    answer.truncate(said);
     answer
 }
 
+// What stands in every table before a load, and in what a load leaves alone.
+const BEFORE: u32 = 7;
+
+#[derive(Default, PartialEq)]
 pub struct Tables {
-    pub reserved: Vec<u64>,
-    pub nodes: Vec<u32>,
-    pub props: Vec<u32>,
+    reserved: Vec<u64>,
+    nodes: Vec<u32>,
+    props: Vec<u32>,
 }
 
-pub fn load(b: &[u8], t: &mut Tables) -> Answer {
+impl Tables {
+    // So many rows of each and a part of one, as before a load.
+    fn before(room: Room) -> Tables {
+        let reserved = vec![BEFORE as u64; room.reservations * 2 + 1];
+        Tables { reserved, nodes: vec![BEFORE; room.nodes * 7 + 3], props: vec![BEFORE; room.props * 4 + 3] }
+    }
+
+    // The numbers of so many rows of each, which are then set back.
+    fn take(&mut self, [reservations, nodes, props]: [usize; 3]) -> Vec<Answer> {
+        let used = |all: usize, count: usize| count.min(all);
+        let reserved = used(self.reserved.len(), reservations.saturating_mul(2));
+        let (nodes, props) = (used(self.nodes.len(), nodes.saturating_mul(7)), used(self.props.len(), props.saturating_mul(4)));
+        let wide = |table: &[u32]| table.iter().map(|n| *n as u64).collect::<Answer>();
+        let parts = vec![self.reserved[..reserved].to_vec(), wide(&self.nodes[..nodes]), wide(&self.props[..props])];
+        self.reserved[..reserved].fill(BEFORE as u64);
+        self.nodes[..nodes].fill(BEFORE);
+        self.props[..props].fill(BEFORE);
+        parts
+    }
+}
+
+fn load(b: &[u8], t: &mut Tables) -> Answer {
     let (reserved, nodes, props) = (&mut t.reserved, &mut t.nodes, &mut t.props);
     told(|answer, room| unsafe {
         dangrisuk_load(
@@ -79,11 +104,11 @@ pub fn load(b: &[u8], t: &mut Tables) -> Answer {
     })
 }
 
-pub fn measure(b: &[u8]) -> Answer {
+fn measure(b: &[u8]) -> Answer {
     told(|answer, room| unsafe { dangrisuk_measure(b.as_ptr(), b.len(), answer, room) })
 }
 
-// The library's lookups in lent tables: all six places of each answer.
+// The library's lookups in lent tables.
 pub struct Library<'a>(pub &'a Lent<'a>);
 
 impl Library<'_> {
@@ -128,5 +153,55 @@ impl Lookups for Library<'_> {
 
     fn properties(&self, row: usize, name: &[u8]) -> [Answer; 5] {
         PROPERTIES.map(|call| self.property(call, row, name))
+    }
+}
+
+// The library asked in process. Its tables are as before a load whenever none is under way.
+pub struct Linked {
+    room: Room,
+    tables: Tables,
+    before: Tables,
+}
+
+impl Linked {
+    pub fn with(room: Room) -> Linked {
+        Linked { room, tables: Tables::before(room), before: Tables::before(room) }
+    }
+
+    fn said(&mut self, b: &[u8], room: Room, asked: &[Asked]) -> Said {
+        if room != self.room {
+            *self = Linked::with(room);
+        }
+        let answer = load(b, &mut self.tables);
+        let (mut found, mut counts) = (vec![], [0; 3]);
+        if let [0, _, _, reservations, nodes, props] = answer[..] {
+            counts = [reservations, nodes, props].map(|n| n as usize);
+            let Tables { nodes, props, .. } = &self.tables;
+            let lent = Lent { b, nodes, node_count: counts[1], props, prop_count: counts[2] };
+            found.extend(asked.iter().flat_map(|one| lookups::found(&Library(&lent), one)));
+        }
+        let rows = self.tables.take(counts);
+        let mut parts = vec![answer];
+        parts.extend(rows.into_iter().filter(|_| counts != [0; 3]).chain(found));
+        // "No refusal writes anything", and an accepted load nothing but its rows.
+        if self.tables != self.before {
+            parts.push(vec![UNSAID]);
+            self.tables = Tables::before(room);
+        }
+        Said { measured: measure(b), parts }
+    }
+}
+
+impl Ours for Linked {
+    fn speaks(&self) -> Speaks {
+        Speaks::Library
+    }
+
+    fn ask(&mut self, inputs: &[Input]) -> Vec<Told> {
+        let mut said = |input: &Input| match input {
+            Input::Blob { b, room, asked } => Told::Said(self.said(b, *room, asked.as_deref().unwrap_or(&[]))),
+            Input::Line(_) => panic!("the library reads no lines"),
+        };
+        inputs.iter().map(|input| said(input)).collect()
     }
 }
