@@ -256,7 +256,10 @@ impl Comparison {
             Input::Line(line) => println!("{}", String::from_utf8_lossy(line)),
             Input::Blob { b, room, asked } => {
                 println!("{}", String::from_utf8_lossy(&hex(b)));
-                println!("room:        {} reservations, {} nodes, {} properties", room.reservations, room.nodes, room.props);
+                println!(
+                    "room:        {} reservations, {} nodes, {} properties",
+                    room.reservations, room.nodes, room.props
+                );
                 for Asked { path, name } in asked.iter().flatten() {
                     println!("path, name:  {}, {}", path.escape_ascii(), name.escape_ascii());
                 }

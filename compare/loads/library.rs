@@ -74,16 +74,19 @@ impl Tables {
 
     // The numbers of so many rows of each, which are then set back.
     fn take(&mut self, [reservations, nodes, props]: [usize; 3]) -> Vec<Answer> {
-        let used = |all: usize, count: usize| count.min(all);
-        let reserved = used(self.reserved.len(), reservations.saturating_mul(2));
-        let (nodes, props) = (used(self.nodes.len(), nodes.saturating_mul(7)), used(self.props.len(), props.saturating_mul(4)));
-        let wide = |table: &[u32]| table.iter().map(|n| *n as u64).collect::<Answer>();
-        let parts = vec![self.reserved[..reserved].to_vec(), wide(&self.nodes[..nodes]), wide(&self.props[..props])];
-        self.reserved[..reserved].fill(BEFORE as u64);
-        self.nodes[..nodes].fill(BEFORE);
-        self.props[..props].fill(BEFORE);
-        parts
+        vec![
+            taken(&mut self.reserved, reservations, 2, BEFORE as u64),
+            taken(&mut self.nodes, nodes, 7, BEFORE),
+            taken(&mut self.props, props, 4, BEFORE),
+        ]
     }
+}
+
+fn taken<T: Copy + Into<u64>>(table: &mut [T], rows: usize, width: usize, before: T) -> Answer {
+    let used = rows.saturating_mul(width).min(table.len());
+    let numbers = table[..used].iter().map(|n| (*n).into()).collect();
+    table[..used].fill(before);
+    numbers
 }
 
 fn load(b: &[u8], t: &mut Tables) -> Answer {

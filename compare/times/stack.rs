@@ -38,6 +38,8 @@ pub fn print() {
     let measured = used(&mut || _ = black_box(measure(black_box(&b))));
     let find = used(&mut || _ = black_box(lent.find(&b, black_box(&path))).expect("find"));
     let nothing = used(&mut || ());
-    println!("bytes of stack at depth 16, the caller's {nothing} included: load {load}, measure {measured}, find {find}");
+    println!(
+        "bytes of stack at depth 16, the caller's {nothing} included: load {load}, measure {measured}, find {find}"
+    );
     println!();
 }

@@ -119,7 +119,10 @@ pub fn print(all: &[Times]) {
     println!("|---|--:|--:|--:|--:|--:|--:|--:|--:|--:|");
     for Times { label, sizes: [nodes, props, bytes], scan, check, load: [theirs, own], measure, .. } in all {
         let [scan, check, a, o, m] = [scan, check, theirs, own, measure].map(|ns| format!("{:.1}", ns / 1000.0));
-        println!("| {label} | {nodes} | {props} | {bytes} | {scan} | {check} | {a} | {o} | {:.2} | {m} |", own / theirs);
+        println!(
+            "| {label} | {nodes} | {props} | {bytes} | {scan} | {check} | {a} | {o} | {:.2} | {m} |",
+            own / theirs
+        );
     }
     println!();
     println!("nanoseconds of a lookup");
@@ -127,7 +130,9 @@ pub fn print(all: &[Times]) {
     println!("|---|--:|--:|--:|--:|--:|--:|--:|--:|");
     for Times { label, sizes: [nodes, ..], path_offset, find: [a, o], first: [fa, fo], .. } in all {
         let (ratio, first) = (o / a, fo / fa);
-        println!("| {label} | {nodes} | {path_offset:.0} | {a:.1} | {o:.1} | {ratio:.2} | {fa:.1} | {fo:.1} | {first:.2} |");
+        println!(
+            "| {label} | {nodes} | {path_offset:.0} | {a:.1} | {o:.1} | {ratio:.2} | {fa:.1} | {fo:.1} | {first:.2} |"
+        );
     }
     println!();
 }

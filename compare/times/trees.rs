@@ -22,7 +22,8 @@ pub fn wide(nodes: usize) -> Node {
 
 // Chains of 15 nodes under the root.
 pub fn deep(nodes: usize) -> Node {
-    let hub = |i: usize, d: usize, below: Option<Node>| named(format!("hub@{:x}", i * 16 + d), i, Vec::from_iter(below));
+    let hub =
+        |i: usize, d: usize, below: Option<Node>| named(format!("hub@{:x}", i * 16 + d), i, Vec::from_iter(below));
     let chain = |i: usize| (1..16).rev().fold(None, |below, d| Some(hub(i, d, below)));
     named(String::new(), 0, (0..nodes / 15).filter_map(chain).collect())
 }
