@@ -6,7 +6,7 @@ use native.Mathlib.Omega.{arith}
 use native.Mathlib.Nat.{add-zero}
 use native.Mathlib.Numerals.{add-one}
 use mathlib.Core.List.{List, [], _∷_, _++_, append-assoc, append-nil}
-use mathlib.Core.Bool.{true, false}
+use mathlib.Core.Bool.{Bool, true, false, _||_, true≢false}
 use lib.ListN.{length, drop, getD, length-drop, drop-of-length-le}
 use lib.Seq.{take-suc, drop-cons, getD-drop, getD-take, ext-getD}
 use borrow.Author.Tests.{eq-eqb, ne-eqb}
@@ -15,7 +15,7 @@ use Rattle.format.specs.Find.{SLASH, head, rest, same}
 use Rattle.format.proofs.Tools.{split, tested, if-yes, if-no}
 use Rattle.format.proofs.Bytes.{part-length}
 use Rattle.format.proofs.Names.{same-is}
-use Rattle.lookup.specs.Places.{NameEnd, lowest}
+use Rattle.lookup.specs.Places.{NameEnd, Plain, lowest}
 
 -- ---- the same bytes
 
@@ -149,6 +149,51 @@ scan-more p at i x h d =
       first = x .first ∙ rw (e₁, one-more p at i (x .low) h, append-assoc);
       later = x .later ∙ e₂;
     }
+
+-- the same of bytes that are no slash, each by itself
+pub plain-start : (p : List ℕ) (at : ℕ) → Plain p at at
+plain-start p at = record { low = omega arith; inside = λ h. absurd (omega arith); none = λ k h l. absurd (omega arith) }
+
+pub plain-on : (p : List ℕ) (at i j : ℕ) → Plain p at i → Plain p i j → Plain p at j
+plain-on p at i j x y =
+    record {
+      low = omega (arith, x .low, y .low);
+      inside = λ h. split j i (λ l. let e : j ≡ i = omega (arith, l, y .low) in rw e (x .inside (omega (arith, h, e)))) (λ l. y .inside l);
+      none = λ k h l. split i k (λ m. y .none k m l) (λ m. x .none k h m);
+    }
+
+-- two tests that are both made, and both fail
+pub neither : (a b : Bool) → (a || b) ≡ false → (a ≡ false) × (b ≡ false)
+neither true b e = absurd (true≢false e)
+neither false b e = (refl, e)
+
+-- four bytes
+pub plain-word : (p : List ℕ) (i : ℕ) → i + 4 ≤ length p → getD p i 0 ≢ SLASH → getD p (i + 1) 0 ≢ SLASH → getD p (i + 2) 0 ≢ SLASH → getD p (i + 3) 0 ≢ SLASH → Plain p i (i + 4)
+plain-word p i h a b c d =
+    record {
+      low = omega arith;
+      inside = λ _. h;
+      none = λ k low high. split k i
+          (λ l. let e : k ≡ i = omega (arith, low, l) in rw e a)
+          (λ l. split k (i + 1)
+          (λ m. let e : k ≡ i + 1 = omega (arith, l, m) in rw e b)
+          (λ m. split k (i + 2)
+          (λ n. let e : k ≡ i + 2 = omega (arith, m, n) in rw e c)
+          (λ n. let e : k ≡ i + 3 = omega (arith, n, high) in rw e d)));
+    }
+
+scan-plain : (p : List ℕ) (at n : ℕ) → at + n ≤ length p → ((k : ℕ) → at ≤ k → k < at + n → getD p k 0 ≢ SLASH) → Scan p at (at + n)
+unfolding SLASH
+scan-plain p at zero h none = rw add-zero (scan-start p at)
+scan-plain p at (suc n) h none =
+    let e : at + suc n ≡ at + n + 1 = omega arith in
+    rw e (scan-more p at (at + n) (scan-plain p at n (omega arith) (λ k l m. none k l (omega arith))) (omega arith) (none (at + n) (omega arith) (omega arith)))
+
+pub plain-scan : (p : List ℕ) (at r : ℕ) → Plain p at r → Scan p at r
+plain-scan p at r x =
+    split r at
+    (λ h. let e : r ≡ at = omega (arith, h, x .low) in rw e (scan-start p at))
+    (λ h. let e : at + (r - at) ≡ r = omega (arith, x .low) in rw e at (scan-plain p at (r - at) (rw e (x .inside h)) (λ k l m. x .none k l (omega (arith, e, m)))))
 
 pub scan-slash : (p : List ℕ) (at i : ℕ) → Scan p at i → i < length p → getD p i 0 ≡ 0x2f → NameEnd p at i
 unfolding head rest SLASH

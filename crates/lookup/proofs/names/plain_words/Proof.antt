@@ -1,0 +1,49 @@
+-- `plain_words` meets its contract: no slash stands from `at` up to i. Measure: the bytes ahead. Assumes nothing.
+use borrow.Author.Needs.{needs}
+use native.Mathlib.Omega.{arith}
+use Prim.Native.Nat.{_-_}
+use lib.ListN.{length}
+use Rattle.lookup.specs.Places.{Plain}
+use Rattle.lookup.proofs.NameLaws.{plain-start, plain-on}
+use Rattle.lookup.proofs.names.plain_words.Statement.{statement}
+use Rattle.lookup.proofs.names.plain_words.Tie as tie
+
+abbrev Inv-loop : tie.InvT-loop
+Inv-loop path at i₀ i = Plain path at i
+
+abbrev μ-loop : tie.MeasureT-loop
+μ-loop path at i₀ i = length path - i
+
+loop-holds : tie.Need-loop-holds Inv-loop μ-loop
+loop-holds c = plain-start _ _
+
+returns : tie.Need-returns Inv-loop μ-loop
+returns c = c .before .before .loop .inv
+
+slash-in-word-requires : tie.Need-slash-in-word-requires Inv-loop μ-loop
+slash-in-word-requires c κs = omega (arith, c .if1 .left, c .before .loop-test .taken)
+
+returns-2 : tie.Need-returns-2 Inv-loop μ-loop
+returns-2 c = c .before .before .before .before .loop .inv
+
+loop-again : tie.Need-loop-again Inv-loop μ-loop
+loop-again c = plain-on _ _ _ _ (c .before .before .before .before .loop .inv) (c .before .slash-in-word .ensures (c .if2 .left))
+
+returns-3 : tie.Need-returns-3 Inv-loop μ-loop
+returns-3 c = c .before .loop .inv
+
+pub plain-words-spec : {M : Type 1} → statement M
+plain-words-spec =
+    tie.close
+    (tie.spec
+    Inv-loop
+    μ-loop
+    loop-holds
+    (λ c. search needs)
+    returns
+    slash-in-word-requires
+    returns-2
+    (λ c. search needs)
+    (λ c. search needs)
+    loop-again
+    returns-3)
