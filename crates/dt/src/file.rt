@@ -63,21 +63,29 @@ pub fn read(name: &[u8], blob: &mut [u8]) -> Contents {
     contents
 }
 
-// Why there are no bytes, in words.
+// Why there are no bytes, in the order of the answers.
+const LINES: [u8; 211] = *b"dt: @: empty
+dt: @: longer than # bytes, which is all that dt reads
+dt: @: no such file
+dt: @: a directory, not a file
+dt: @: no permission to read it
+dt: @: the name is too long
+dt: @: cannot be read (error #)
+";
+
+// A line of those, with what stands in it.
+fn told(text: &mut [u8], name: &[u8], line: u64, n: u64) -> Output {
+    fill::line(text, output::wrong(), &LINES, line, name, n, 0)
+}
+
 pub fn complain(text: &mut [u8], name: &[u8], why: Contents) -> Output {
     match why {
-        Contents::Bytes(_) => fill::wrong(text, b"dt: @: empty\n", name),
-        Contents::TooLong => {
-            let line = b"dt: @: longer than # bytes, which is all that dt reads\n";
-            fill::all(text, output::wrong(), line, name, BLOB as u64, 0)
-        }
-        Contents::Missing => fill::wrong(text, b"dt: @: no such file\n", name),
-        Contents::Directory => fill::wrong(text, b"dt: @: a directory, not a file\n", name),
-        Contents::NoPermission => fill::wrong(text, b"dt: @: no permission to read it\n", name),
-        Contents::NameTooLong => fill::wrong(text, b"dt: @: the name is too long\n", name),
-        Contents::Unreadable(errno) => {
-            let line = b"dt: @: cannot be read (error #)\n";
-            fill::all(text, output::wrong(), line, name, errno, 0)
-        }
+        Contents::Bytes(_) => told(text, name, 0, 0),
+        Contents::TooLong => told(text, name, 1, BLOB as u64),
+        Contents::Missing => told(text, name, 2, 0),
+        Contents::Directory => told(text, name, 3, 0),
+        Contents::NoPermission => told(text, name, 4, 0),
+        Contents::NameTooLong => told(text, name, 5, 0),
+        Contents::Unreadable(errno) => told(text, name, 6, errno),
     }
 }

@@ -8,7 +8,7 @@ use lookup::Found;
 
 // The line of a node that was found.
 fn found(text: &mut [u8], nodes: &[u32], count: usize, path: &[u8], row: usize) -> Output {
-    let out = fill::all(text, output::good(), b"@: row #, ", path, row as u64, 0);
+    let out = fill::numbered(text, output::good(), b"@: row #, ", path, row as u64);
     let props = rows::props_of(nodes, row);
     let out = fill::counted(text, out, props, b"# property, ", b"# properties, ");
     let children = rows::children(nodes, count, row);

@@ -8,46 +8,44 @@ use crate::fill;
 use crate::output;
 use crate::output::Output;
 
-// How a command is called. These lines, and the next two, end in words by which ./dt knows a command line that makes no sense.
-pub fn usage(text: &mut [u8], command: Command) -> Output {
-    let out = output::wrong();
-    match command {
-        Command::Check => output::bytes(
-            text,
-            out,
-            b"dt: usage: dt check FILE: dt help tells more\n",
-        ),
-        Command::Tree => output::bytes(text, out, b"dt: usage: dt tree FILE: dt help tells more\n"),
-        Command::Find => output::bytes(
-            text,
-            out,
-            b"dt: usage: dt find FILE PATH: dt help tells more\n",
-        ),
-        Command::Prop => output::bytes(
-            text,
-            out,
-            b"dt: usage: dt prop FILE PATH NAME [raw|str|u32|u64]: dt help tells more\n",
-        ),
-        _ => output::bytes(
-            text,
-            out,
-            b"dt: usage: dt check|tree|find|prop|help ..: dt help tells more\n",
-        ),
-    }
+// Command lines that make no sense. By the words at the end of these lines ./dt knows them.
+const NONSENSE: [u8; 374] = *b"dt: usage: dt check FILE: dt help tells more
+dt: usage: dt tree FILE: dt help tells more
+dt: usage: dt find FILE PATH: dt help tells more
+dt: usage: dt prop FILE PATH NAME [raw|str|u32|u64]: dt help tells more
+dt: usage: dt check|tree|find|prop|help ..: dt help tells more
+dt: unknown command '@': dt help lists them
+dt: word # is longer than 4096 bytes: dt help tells more
+";
+
+// A line of those, with what stands in it.
+fn told(text: &mut [u8], line: u64, word: &[u8], place: u64) -> Output {
+    fill::line(text, output::wrong(), &NONSENSE, line, word, place, 0)
 }
 
-pub fn unknown(text: &mut [u8], word: &[u8]) -> Output {
-    fill::wrong(text, b"dt: unknown command '@': dt help lists them\n", word)
+// How a command is called.
+pub fn usage(text: &mut [u8], command: Command, word: &[u8]) -> Output {
+    match command {
+        Command::Check => told(text, 0, word, 0),
+        Command::Tree => told(text, 1, word, 0),
+        Command::Find => told(text, 2, word, 0),
+        Command::Prop => told(text, 3, word, 0),
+        Command::Help => told(text, 4, word, 0),
+        Command::Unknown => told(text, 5, word, 0),
+    }
 }
 
 // A word that has no room.
 pub fn too_long(text: &mut [u8], place: u64) -> Output {
-    let line = b"dt: word # is longer than 4096 bytes: dt help tells more\n";
-    fill::number(text, output::wrong(), line, place)
+    told(text, 6, b"", place)
 }
 
 // What the commands do, and how they show what they find.
-const HELP: [u8; 1126] = *b"dt reads flattened device trees (.dtb).
+fn commands(text: &mut [u8]) -> Output {
+    output::bytes(
+        text,
+        output::good(),
+        b"dt reads flattened device trees (.dtb).
 
   dt check FILE        whether it is good; if not, why and where
   dt tree FILE         the whole tree as .dts text
@@ -68,20 +66,31 @@ and file names one that is not printable ASCII is, and a backslash is shown as t
 Reservations: the last row, of size 0, ends the list. It is counted, and it is shown, as a
 comment, only if it has an offset.
 
-";
+",
+    )
+}
 
-// The limits and the exit status, which stand at its end.
+// The limits, and the exit status.
 fn limits(text: &mut [u8], out: Output) -> Output {
     let files = b"Limits: # bytes a file, ^ reservation rows, ";
     let out = fill::numbers(text, out, files, BLOB as u64, RESERVATIONS as u64);
-    let rows = b"# nodes, ^ properties, and 16 nodes one\ninside another.\n\n";
+    let rows = b"# nodes, ^ properties, 16 nodes one inside another.\n";
     fill::numbers(text, out, rows, NODES as u64, PROPERTIES as u64)
 }
 
+fn status(text: &mut [u8], out: Output) -> Output {
+    output::bytes(
+        text,
+        out,
+        b"
+What goes wrong is one line on standard error. The exit status of ./dt is then 1, or 2 where
+the command line makes no sense; else 0.
+",
+    )
+}
+
 pub fn put(text: &mut [u8]) -> Output {
-    let out = output::bytes(text, output::good(), &HELP);
+    let out = commands(text);
     let out = limits(text, out);
-    let status =
-        b"What goes wrong is one line on standard error. The exit status of ./dt is then 1, or 2 where\nthe command line makes no sense; else 0.\n";
-    output::bytes(text, out, status)
+    status(text, out)
 }

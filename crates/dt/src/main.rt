@@ -186,7 +186,7 @@ fn prop_as(text: &mut [u8]) -> Output {
         Arg::TooLong => help::too_long(text, 5),
         Arg::Len(n) => match args::reading_of(output::upto(&word, n)) {
             Asked::For(reading) => words_of(text, Task::Prop(reading)),
-            Asked::Unknown => help::usage(text, Command::Prop),
+            Asked::Unknown => help::usage(text, Command::Prop, b""),
         },
     }
 }
@@ -219,16 +219,16 @@ fn run(text: &mut [u8], word: &[u8], count: usize) -> Output {
             }
         }
         Command::Help => return help::put(text),
-        Command::Unknown => return help::unknown(text, word),
+        Command::Unknown => {}
     }
-    help::usage(text, command)
+    help::usage(text, command, word)
 }
 
 // What the command line asks for.
 fn answer(text: &mut [u8]) -> Output {
     let count = os::arg_count();
     if count < 2 {
-        return help::usage(text, Command::Help);
+        return help::usage(text, Command::Help, b"");
     }
     let mut word = io::buffer();
     match args::get(1, &mut word) {

@@ -46,20 +46,26 @@ fn code(why: PropError) -> u64
     }
 }
 
-// A refusal's words. Only a number can be too short, and it is told of how many bytes.
-fn reason(text: &mut [u8], out: Output, why: PropError, width: u64) -> Output {
+// The words of a refusal, and its number.
+const REASONS: [u8; 161] = *b"is not there (#)
+is no string: it is not UTF-8 (#)
+is no string: it does not end in a zero byte (#)
+is shorter than ^ bytes (#)
+has rows that cannot be used (#)
+";
+
+// The line of a refusal among those.
+fn line_of(why: PropError) -> u64 {
     match why {
-        PropError::NotFound => output::bytes(text, out, b"is not there"),
-        PropError::Utf8Error => output::bytes(text, out, b"is no string: it is not UTF-8"),
-        PropError::Missing0 => {
-            output::bytes(text, out, b"is no string: it does not end in a zero byte")
-        }
-        PropError::Short => fill::number(text, out, b"is shorter than # bytes", width),
-        PropError::Unusable => output::bytes(text, out, b"has rows that cannot be used"),
+        PropError::NotFound => 0,
+        PropError::Utf8Error => 1,
+        PropError::Missing0 => 2,
+        PropError::Short => 3,
+        PropError::Unusable => 4,
     }
 }
 
-// A property that is not read.
+// A property that is not read. Only a number can be too short, and it is told of how many bytes.
 fn refused(
     text: &mut [u8],
     file: &[u8],
@@ -71,13 +77,12 @@ fn refused(
     let out = fill::wrong(text, b"dt: @: property ", file);
     let out = fill::words(text, out, b"@ of ", name);
     let out = fill::words(text, out, b"@ ", path);
-    let out = reason(text, out, why, width);
-    fill::number(text, out, b" (#)\n", code(why))
+    fill::line(text, out, &REASONS, line_of(why), name, code(why), width)
 }
 
 // A number, in decimal and in hexadecimal.
 fn number(text: &mut [u8], n: u64) -> Output {
-    fill::number(text, output::good(), b"# ($)\n", n)
+    fill::numbers(text, output::good(), b"# ($)\n", n, 0)
 }
 
 // The value as it is shown in the tree.

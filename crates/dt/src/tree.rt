@@ -33,11 +33,12 @@ fn reservation(text: &mut [u8], out: Output, offset: u64, size: u64) -> Output {
     if offset == 0 {
         return out;
     }
-    fill::number(
+    fill::numbers(
         text,
         out,
         b"// the end of the reservations has the offset $\n",
         offset,
+        0,
     )
 }
 

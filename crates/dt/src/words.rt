@@ -38,89 +38,72 @@ fn code(why: DeviceTreeError) -> u64
     }
 }
 
-// Two numbers that differ, of the header and what is there.
-fn size_mismatch(text: &mut [u8], out: Output, b: &[u8]) -> Output {
-    let told = wide(reader::word_at(b, LENGTH_AT));
-    let line = b"its header tells a length of # bytes, and the file has ^\n";
-    fill::numbers(text, out, line, told, b.len() as u64)
+// The words of each refusal, by its number.
+const REASONS: [u8; 563] = *b"
+it does not begin with d00dfeed
+its header tells a length of # bytes, and the file has ^
+unexpected end: a part reaches past the end of the file, or a value right up to it
+a parse error at byte # ($): the word ~ may not stand there
+the name of a node or a property is not UTF-8
+it is of version #, and only 17 is read
+too deep: the node at byte # ($) would be the 17th one inside another, and 16 may be
+it needs # rows for reservations, and dt has room for ^
+it needs # rows for nodes, and dt has room for ^
+it needs # rows for properties, and dt has room for ^
+";
+
+// The numbers that stand in those words.
+struct Numbers {
+    first: u64,
+    second: u64,
 }
 
-fn version(text: &mut [u8], out: Output, b: &[u8]) -> Output {
-    let told = wide(reader::word_at(b, VERSION_AT));
-    fill::number(
-        text,
-        out,
-        b"it is of version #, and only 17 is read\n",
-        told,
-    )
+// What a blob has at a position, and what it is held against.
+fn found(b: &[u8], pos: usize, second: usize) -> Numbers {
+    Numbers {
+        first: wide(reader::word_at(b, pos)),
+        second: second as u64,
+    }
 }
 
-// The word that no rule allows at that position.
-fn parse_error(text: &mut [u8], out: Output, b: &[u8], pos: usize) -> Output {
-    let word = wide(reader::word_at(b, pos));
-    let line = b"a parse error at byte # ($): the word ~ may not stand there\n";
-    fill::numbers(text, out, line, pos as u64, word)
+// A position, and the word that no rule allows there.
+fn placed(b: &[u8], pos: usize) -> Numbers {
+    Numbers {
+        first: pos as u64,
+        second: wide(reader::word_at(b, pos)),
+    }
 }
 
-fn room(text: &mut [u8], out: Output, rows: usize, have: usize, line: &[u8]) -> Output {
-    let out = fill::number(text, out, b"it needs # rows for ", rows as u64);
-    fill::number(text, out, line, have as u64)
+fn told(first: usize, second: usize) -> Numbers {
+    Numbers {
+        first: first as u64,
+        second: second as u64,
+    }
 }
 
-// A refusal's words.
-fn reason(text: &mut [u8], out: Output, b: &[u8], why: DeviceTreeError) -> Output {
+fn carried(b: &[u8], why: DeviceTreeError) -> Numbers {
     match why {
-        DeviceTreeError::InvalidMagicNumber => {
-            output::bytes(text, out, b"it does not begin with d00dfeed\n")
-        }
-        DeviceTreeError::SizeMismatch => size_mismatch(text, out, b),
-        DeviceTreeError::UnexpectedEndOfInput => output::bytes(
-            text,
-            out,
-            b"unexpected end: a part reaches past the end of the file, or a value right up to it\n",
-        ),
-        DeviceTreeError::ParseError(pos) => parse_error(text, out, b, pos),
-        DeviceTreeError::Utf8Error => {
-            output::bytes(
-                text,
-                out,
-                b"the name of a node or a property is not UTF-8\n",
-            )
-        }
-        DeviceTreeError::VersionNotSupported => version(text, out, b),
-        DeviceTreeError::TooDeep(pos) => fill::number(
-            text,
-            out,
-            b"too deep: the node at byte # ($) would be the 17th one inside another, and 16 may be\n",
-            pos as u64,
-        ),
-        DeviceTreeError::ReservationRoom(rows) => {
-            room(
-                text,
-                out,
-                rows,
-                RESERVATIONS,
-                b"reservations, and dt has room for #\n",
-            )
-        }
-        DeviceTreeError::NodeRoom(rows) => {
-            room(text, out, rows, NODES, b"nodes, and dt has room for #\n")
-        }
-        DeviceTreeError::PropertyRoom(rows) => {
-            room(
-                text,
-                out,
-                rows,
-                PROPERTIES,
-                b"properties, and dt has room for #\n",
-            )
-        }
+        DeviceTreeError::SizeMismatch => found(b, LENGTH_AT, b.len()),
+        DeviceTreeError::ParseError(pos) => placed(b, pos),
+        DeviceTreeError::VersionNotSupported => found(b, VERSION_AT, 0),
+        DeviceTreeError::TooDeep(pos) => told(pos, 0),
+        DeviceTreeError::ReservationRoom(rows) => told(rows, RESERVATIONS),
+        DeviceTreeError::NodeRoom(rows) => told(rows, NODES),
+        DeviceTreeError::PropertyRoom(rows) => told(rows, PROPERTIES),
+        _ => told(0, 0),
     }
 }
 
 // A blob that is not loaded.
 pub fn refused(text: &mut [u8], file: &[u8], b: &[u8], why: DeviceTreeError) -> Output {
-    let line = b"dt: @: refused with #: ";
-    let out = fill::all(text, output::wrong(), line, file, code(why), 0);
-    reason(text, out, b, why)
+    let number = code(why);
+    let out = fill::numbered(
+        text,
+        output::wrong(),
+        b"dt: @: refused with #: ",
+        file,
+        number,
+    );
+    let told = carried(b, why);
+    fill::line(text, out, &REASONS, number, file, told.first, told.second)
 }
