@@ -4,7 +4,7 @@ use crate::fill;
 use crate::output;
 use crate::output::Output;
 
-// How many bytes a file has, or why they are not there. errno is positive.
+// How many bytes a file has, or why they are not there; where nothing better is known, by errno.
 pub enum Contents {
     Bytes(usize),
     TooLong,

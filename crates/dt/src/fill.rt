@@ -4,7 +4,7 @@ use crate::output;
 use crate::output::Output;
 use crate::show;
 
-// What stands in a line's place: `@` the words, `#` the first number, `$` the same in hexadecimal, `^` the second one,
+// What stands for a byte of a line: `@` the words, `#` the first number, `$` the same in hexadecimal, `^` the second one,
 // `%` the same in hexadecimal, `~` in 8 digits or more. Any other byte is itself.
 fn place(text: &mut [u8], out: Output, c: u8, words: &[u8], first: u64, second: u64) -> Output {
     match c {

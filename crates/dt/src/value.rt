@@ -1,5 +1,5 @@
-// A property's value as .dts text: strings where it can be nothing but text or cells, else cells, else bytes. Where it can be
-// strings and cells, the cells stand in a comment behind it.
+// A property's value as .dts text: strings where it is text, else cells where its length is a multiple of theirs, else bytes. Text
+// of such a length could be cells as well, and they stand behind it in a comment.
 use crate::output;
 use crate::output::Output;
 use crate::show;
