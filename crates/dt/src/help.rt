@@ -7,6 +7,7 @@ use crate::args::Command;
 use crate::fill;
 use crate::output;
 use crate::output::Output;
+use loader::DEPTH;
 
 // Command lines that make no sense. By the words at the end of these lines ./dt knows them.
 const NONSENSE: [u8; 374] = *b"dt: usage: dt check FILE: dt help tells more
@@ -74,8 +75,15 @@ comment, only if it has an offset.
 fn limits(text: &mut [u8], out: Output) -> Output {
     let files = b"Limits: # bytes a file, ^ reservation rows, ";
     let out = fill::numbers(text, out, files, BLOB as u64, RESERVATIONS as u64);
-    let rows = b"# nodes, ^ properties, 16 nodes one inside another.\n";
-    fill::numbers(text, out, rows, NODES as u64, PROPERTIES as u64)
+    let rows = b"# nodes, ^ properties,\n";
+    let out = fill::numbers(text, out, rows, NODES as u64, PROPERTIES as u64);
+    fill::numbers(
+        text,
+        out,
+        b"and # nodes one inside another.\n",
+        DEPTH as u64,
+        0,
+    )
 }
 
 fn status(text: &mut [u8], out: Output) -> Output {

@@ -2,6 +2,7 @@
 // blob is empty. After a load neither is met.
 ghost use Prim.Native.Nat.{_≤_, _<_, _+_};
 ghost use mathlib.Core.Path.{_≡_};
+use loader::DEPTH;
 use loader::NODE_WIDTH;
 use loader::NONE;
 use loader::PROPERTY_WIDTH;
@@ -23,7 +24,7 @@ const COUNT: usize = 6;
 const VALUE: usize = 2;
 
 // How many nodes of a loaded tree can stand above a node.
-const DEEPEST: usize = 15;
+const DEEPEST: usize = DEPTH - 1;
 
 fn wide(n: u32) -> usize
     ensures { λ r. ⌜ (r ≡ n) × (r < 4294967296) ⌝ }
@@ -114,7 +115,7 @@ pub(crate) fn props_of(nodes: &[u32], row: usize) -> usize
 
 // How many nodes stand above a node.
 pub(crate) fn depth(nodes: &[u32], row: usize) -> usize
-    ensures { λ r. ⌜ r ≤ 15 ⌝ }
+    ensures { λ r. ⌜ r < 4294967296 ⌝ }
 {
     let mut link = node(nodes, row, PARENT);
     let mut depth = 0;

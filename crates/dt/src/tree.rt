@@ -1,6 +1,6 @@
 // `dt tree`: the whole tree as .dts text. Rows stand in the order of opening tokens, so one pass over them tells where nodes
 // close: before a row, those that are at least as deep.
-ghost use Prim.Native.Nat.{_≤_};
+ghost use Prim.Native.Nat.{_<_};
 use crate::check;
 use crate::fill;
 use crate::output;
@@ -145,7 +145,7 @@ fn node(
     row: usize,
     depth: usize,
 ) -> Output
-    requires { ⌜ depth ≤ 15 ⌝ }
+    requires { ⌜ depth < 4294967296 ⌝ }
 {
     let first = rows::first_prop(nodes, row);
     let end = first + rows::props_of(nodes, row);

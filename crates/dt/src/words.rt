@@ -9,6 +9,7 @@ use crate::RESERVATIONS;
 use crate::fill;
 use crate::output;
 use crate::output::Output;
+use loader::DEPTH;
 use loader::DeviceTreeError;
 
 // Where the length and the version stand in a blob.
@@ -39,14 +40,14 @@ fn code(why: DeviceTreeError) -> u64
 }
 
 // The words of each refusal, by its number.
-const REASONS: [u8; 563] = *b"
+const REASONS: [u8; 562] = *b"
 it does not begin with d00dfeed
 its header tells a length of # bytes, and the file has ^
 unexpected end: a part reaches past the end of the file, or a value right up to it
 a parse error at byte # ($): the word ~ may not stand there
 the name of a node or a property is not UTF-8
 it is of version #, and only 17 is read
-too deep: the node at byte # ($) would be the 17th one inside another, and 16 may be
+too deep: with the node at byte # ($) there would be more than ^ one inside another
 it needs # rows for reservations, and dt has room for ^
 it needs # rows for nodes, and dt has room for ^
 it needs # rows for properties, and dt has room for ^
@@ -86,7 +87,7 @@ fn carried(b: &[u8], why: DeviceTreeError) -> Numbers {
         DeviceTreeError::SizeMismatch => found(b, LENGTH_AT, b.len()),
         DeviceTreeError::ParseError(pos) => placed(b, pos),
         DeviceTreeError::VersionNotSupported => found(b, VERSION_AT, 0),
-        DeviceTreeError::TooDeep(pos) => told(pos, 0),
+        DeviceTreeError::TooDeep(pos) => told(pos, DEPTH),
         DeviceTreeError::ReservationRoom(rows) => told(rows, RESERVATIONS),
         DeviceTreeError::NodeRoom(rows) => told(rows, NODES),
         DeviceTreeError::PropertyRoom(rows) => told(rows, PROPERTIES),

@@ -1,14 +1,14 @@
--- `dt::rows::depth` meets its contract and ends: it takes 15 steps at most. Assumes nothing.
+-- `dt::rows::depth` meets its contract and ends: it takes fewer steps than the depth limit. Assumes nothing.
 use borrow.Author.Needs.{needs}
-use Prim.Native.Nat.{_≤_, _-_}
+use Prim.Native.Nat.{_<_, _-_}
 use Rattle.dt.proofs.rows.depth.Statement.{statement}
 use Rattle.dt.proofs.rows.depth.Tie as tie
 
 abbrev Inv-loop : tie.InvT-loop
-Inv-loop nodes row link₀ depth₀ link depth = depth ≤ 15
+Inv-loop nodes row link₀ depth₀ link depth = depth < 4294967296
 
 abbrev μ-loop : tie.MeasureT-loop
-μ-loop nodes row link₀ depth₀ link depth = 15 - depth
+μ-loop nodes row link₀ depth₀ link depth = 4294967296 - depth
 
 pub depth-spec : {M : Type 1} → statement M
 depth-spec =
