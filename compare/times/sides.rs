@@ -46,17 +46,18 @@ pub struct Lent {
     reserved: Vec<u64>,
     pub nodes: Vec<u32>,
     props: Vec<u32>,
+    count: usize,
 }
 
 impl Lent {
     pub fn to(b: &[u8]) -> Lent {
         let [number, _, _, reserved, nodes, props] = measure(b).map(|n| n as usize);
         assert_eq!(number, 0, "measure");
-        Lent { reserved: vec![0; reserved * 2], nodes: vec![0; nodes * 7], props: vec![0; props * 4] }
+        Lent { reserved: vec![0; reserved * 2], nodes: vec![0; nodes * 7], props: vec![0; props * 4], count: nodes }
     }
 
     pub fn count(&self) -> usize {
-        self.nodes.len() / 7
+        self.count
     }
 
     pub fn props(&self) -> usize {

@@ -1,7 +1,7 @@
 // A tree's times, and the two tables of them.
 use crate::random::Random;
 use crate::sides::{check_full, measure, original, path_offset, paths, scan, Lent};
-use crate::timing::{again, clock, first_asked, medians, slow, Side};
+use crate::timing::{again, clock, first_asked, in_turns, medians, Side};
 use device_tree::DeviceTree;
 use std::ffi::CString;
 use std::hint::black_box;
@@ -18,6 +18,7 @@ pub struct Times {
     measure: f64,
     path_offset: f64,
     find: [f64; 2],
+    again: [f64; 2],
     first: [f64; 2],
 }
 
@@ -59,7 +60,7 @@ fn loads(b: &[u8], lent: &mut Lent, runs: usize) -> [f64; 5] {
         Box::new(|_| clock(|| lent.load(black_box(b)))),
         Box::new(|_| clock(|| measure(black_box(b)))),
     ];
-    medians(again(runs), sides).try_into().expect("five sides")
+    medians(in_turns(runs), sides).try_into().expect("five sides")
 }
 
 // A run over a set of paths: the nanoseconds of a lookup.
@@ -67,14 +68,15 @@ fn each<T>(paths: &[Path], mut look: impl FnMut(&Path) -> T) -> f64 {
     clock(|| paths.iter().for_each(|path| _ = black_box(look(black_box(path))))) / LOOKUPS as f64
 }
 
-// Both sides asked again and again, libfdt, and both sides asked for the first time.
-fn finds(b: &[u8], tree: &DeviceTree, lent: &Lent, sets: &[Vec<Path>], runs: usize) -> [Vec<f64>; 3] {
+// Both sides in turns, libfdt, both sides each again and again, and both sides asked for the first time.
+fn finds(b: &[u8], tree: &DeviceTree, lent: &Lent, sets: &[Vec<Path>], runs: usize) -> [Vec<f64>; 4] {
     let own = || -> Side { Box::new(|set| each(&sets[set], |path| lent.find(b, &path.text))) };
     let theirs = || -> Side { Box::new(|set| each(&sets[set], |path| tree.find(&path.text).is_some())) };
     let fdt: Side = Box::new(|set| each(&sets[set], |path| path_offset(b, &path.ended)));
     [
+        medians(in_turns(runs), vec![theirs(), own()]),
+        medians(in_turns(7), vec![fdt]),
         medians(again(runs), vec![theirs(), own()]),
-        medians(slow(), vec![fdt]),
         medians(first_asked(runs), vec![theirs(), own()]),
     ]
 }
@@ -99,7 +101,7 @@ pub fn times(label: &str, b: &[u8]) -> Times {
     sets.iter().flatten().for_each(|path| _ = agree(b, &tree, &lent, path));
     sets[0].iter().for_each(|path| agrees(b, path, agree(b, &tree, &lent, path)));
     let [scan, check, theirs, own, measure] = loads(b, &mut lent, runs);
-    let [warm, fdt, first] = finds(b, &tree, &lent, &sets, runs);
+    let [turns, fdt, again, first] = finds(b, &tree, &lent, &sets, runs);
     Times {
         label: label.to_string(),
         sizes: [lent.count(), lent.props(), b.len()],
@@ -108,7 +110,8 @@ pub fn times(label: &str, b: &[u8]) -> Times {
         load: [theirs, own],
         measure,
         path_offset: fdt[0],
-        find: [warm[0], warm[1]],
+        find: [turns[0], turns[1]],
+        again: [again[0], again[1]],
         first: [first[0], first[1]],
     }
 }
@@ -126,13 +129,11 @@ pub fn print(all: &[Times]) {
     }
     println!();
     println!("nanoseconds of a lookup");
-    println!("| tree | nodes | fdt_path_offset | original | find | ratio | first asked: original | find | ratio |");
-    println!("|---|--:|--:|--:|--:|--:|--:|--:|--:|");
-    for Times { label, sizes: [nodes, ..], path_offset, find: [a, o], first: [fa, fo], .. } in all {
-        let (ratio, first) = (o / a, fo / fa);
-        println!(
-            "| {label} | {nodes} | {path_offset:.0} | {a:.1} | {o:.1} | {ratio:.2} | {fa:.1} | {fo:.1} | {first:.2} |"
-        );
+    println!("| tree | nodes | fdt_path_offset | original | find | ratio | over and over: original | find | ratio | first asked: original | find | ratio |");
+    println!("|---|--:|--:|--:|--:|--:|--:|--:|--:|--:|--:|--:|");
+    for Times { label, sizes: [nodes, ..], path_offset, find, again, first, .. } in all {
+        let pairs = [find, again, first].map(|[a, o]| format!(" {a:.1} | {o:.1} | {:.2} |", o / a)).concat();
+        println!("| {label} | {nodes} | {path_offset:.0} |{pairs}");
     }
     println!();
 }

@@ -21,7 +21,12 @@ pub struct Order {
     pub counted: fn(usize) -> usize,
 }
 
-// The same again and again: nothing is new to caches or branch predictors.
+// The same in every round, after one round that is not counted: the sides just take turns.
+pub fn in_turns(runs: usize) -> Order {
+    Order { runs, before: |run| vec![0; (run == 0) as usize], counted: |_| 0 }
+}
+
+// The same again and again, each side by itself: nothing is new to branch predictors.
 pub fn again(runs: usize) -> Order {
     Order { runs, before: |_| vec![0; 5], counted: |_| 0 }
 }
@@ -29,11 +34,6 @@ pub fn again(runs: usize) -> Order {
 // Another set in every run, after one that is different too: caches are warm, the paths are new.
 pub fn first_asked(runs: usize) -> Order {
     Order { runs, before: |run| vec![2 * run], counted: |run| 2 * run + 1 }
-}
-
-// The same again, for what takes too long to be asked five times over.
-pub fn slow() -> Order {
-    Order { runs: 7, before: |run| vec![0; (run == 0) as usize], counted: |_| 0 }
 }
 
 // The sides' median times, in turns.
