@@ -1,46 +1,9 @@
 // The static library's calls on plain slices: a slice goes as a pointer and a count of its elements. An answer has room for 6 numbers.
+use crate::calls::{dangrisuk_find, dangrisuk_find_from, dangrisuk_load, dangrisuk_measure, Property, PROPERTIES};
 use crate::lookups::{self, Answer, Asked, Lookups, Said};
 use crate::ours::{Input, Ours, Speaks, Told};
 use crate::rows::Lent;
 use crate::scope::Room;
-
-#[rustfmt::skip]
-extern "C" {
-    fn dangrisuk_load(
-        blob: *const u8, blob_len: usize, reserved: *mut u64, reserved_len: usize, nodes: *mut u32, nodes_len: usize,
-        props: *mut u32, props_len: usize, answer: *mut u64, answer_len: usize,
-    );
-    fn dangrisuk_measure(blob: *const u8, blob_len: usize, answer: *mut u64, answer_len: usize);
-    fn dangrisuk_find(
-        blob: *const u8, blob_len: usize, nodes: *const u32, nodes_len: usize, node_count: usize,
-        path: *const u8, path_len: usize, answer: *mut u64, answer_len: usize,
-    );
-    fn dangrisuk_find_from(
-        blob: *const u8, blob_len: usize, nodes: *const u32, nodes_len: usize, node_count: usize, row: usize,
-        path: *const u8, path_len: usize, answer: *mut u64, answer_len: usize,
-    );
-}
-
-// The property calls all take the same.
-#[rustfmt::skip]
-type Property = unsafe extern "C" fn(
-    *const u8, usize, *const u32, usize, usize, *const u32, usize, usize, usize, *const u8, usize, *mut u64, usize,
-);
-
-macro_rules! property_calls {
-    ($($call:ident)*) => {
-        extern "C" {
-            $(fn $call(
-                blob: *const u8, blob_len: usize, nodes: *const u32, nodes_len: usize, node_count: usize,
-                props: *const u32, props_len: usize, prop_count: usize, row: usize,
-                name: *const u8, name_len: usize, answer: *mut u64, answer_len: usize,
-            );)*
-        }
-        const PROPERTIES: [Property; 5] = [$($call),*];
-    };
-}
-
-property_calls! { dangrisuk_has_prop dangrisuk_prop_raw dangrisuk_prop_str dangrisuk_prop_u32 dangrisuk_prop_u64 }
 
 // What stands in an answer before a call and in the places that a call leaves alone, and what follows an answer where a load wrote more
 // than its rows: no number of any answer.

@@ -7,6 +7,8 @@ extern crate device_tree;
 
 mod asks;
 mod blobs;
+#[cfg(library)]
+mod calls;
 mod compare;
 #[cfg(library)]
 mod files;

@@ -6,6 +6,9 @@ extern crate device_tree;
 #[allow(dead_code)]
 #[path = "../loads/blobs.rs"]
 mod blobs;
+#[allow(dead_code)]
+#[path = "../loads/calls.rs"]
+mod calls;
 mod counts;
 #[allow(dead_code)]
 #[path = "../loads/random.rs"]

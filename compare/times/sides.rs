@@ -1,18 +1,9 @@
 // Who is timed: the original, the static library, libfdt, and a sum of the blob's bytes.
+use crate::calls::{dangrisuk_find, dangrisuk_load, dangrisuk_measure};
 use device_tree::{DeviceTree, Node};
 use std::ffi::{c_char, c_int, CString};
 
-#[rustfmt::skip]
 extern "C" {
-    fn dangrisuk_load(
-        blob: *const u8, blob_len: usize, reserved: *mut u64, reserved_len: usize, nodes: *mut u32, nodes_len: usize,
-        props: *mut u32, props_len: usize, answer: *mut u64, answer_len: usize,
-    );
-    fn dangrisuk_measure(blob: *const u8, blob_len: usize, answer: *mut u64, answer_len: usize);
-    fn dangrisuk_find(
-        blob: *const u8, blob_len: usize, nodes: *const u32, nodes_len: usize, node_count: usize,
-        path: *const u8, path_len: usize, answer: *mut u64, answer_len: usize,
-    );
     fn fdt_check_full(blob: *const u8, blob_len: usize) -> c_int;
     fn fdt_path_offset(blob: *const u8, path: *const c_char) -> c_int;
 }
