@@ -93,6 +93,15 @@ pub fn bytes(text: &mut [u8], from: Output, s: &[u8]) -> Output {
     out
 }
 
+// A word, and a byte, as a number to be told.
+pub fn word(n: u32) -> u64 {
+    n as u64
+}
+
+pub fn short(b: u8) -> u64 {
+    b as u64
+}
+
 // A number in decimal.
 pub fn number(text: &mut [u8], out: Output, n: u64) -> Output {
     let mut digits = [0u8; 20];

@@ -24,9 +24,8 @@ pub struct At {
     pub row: usize,
 }
 
-// What a lookup found: a part to be shown, its bytes or its text, a number, or a refusal with how many bytes a number has.
+// What a lookup found: a value, a text, a number, or a refusal with how many bytes a number has.
 enum Answer {
-    Shown { start: usize, len: usize },
     Raw { start: usize, len: usize },
     Str { start: usize, len: usize },
     Number(u64),
@@ -101,6 +100,14 @@ fn raw(text: &mut [u8], v: &[u8]) -> Output {
     output::byte(text, out, b'\n')
 }
 
+// The value in one of these two ways.
+fn value_as(text: &mut [u8], v: &[u8], reading: Reading) -> Output {
+    match reading {
+        Reading::Raw => raw(text, v),
+        _ => shown(text, v),
+    }
+}
+
 // The value's text.
 fn string(text: &mut [u8], s: &[u8]) -> Output {
     fill::words(text, output::good(), b"@\n", s)
@@ -108,14 +115,6 @@ fn string(text: &mut [u8], s: &[u8]) -> Output {
 
 fn refusal(why: PropError, width: u64) -> Answer {
     Answer::Refused { why, width }
-}
-
-fn ask_shown(b: &[u8], nodes: &[u32], props: &[u32], at: At, name: &[u8]) -> Answer {
-    match lookup::prop_raw(b, nodes, at.nodes, props, at.props, at.row, name) {
-        Value::Part { start, len } => Answer::Shown { start, len },
-        Value::Nothing => refusal(PropError::NotFound, 0),
-        Value::Unusable => refusal(PropError::Unusable, 0),
-    }
 }
 
 fn ask_raw(b: &[u8], nodes: &[u32], props: &[u32], at: At, name: &[u8]) -> Answer {
@@ -149,7 +148,7 @@ fn ask_u64(b: &[u8], nodes: &[u32], props: &[u32], at: At, name: &[u8]) -> Answe
 
 fn ask(b: &[u8], nodes: &[u32], props: &[u32], at: At, name: &[u8], reading: Reading) -> Answer {
     match reading {
-        Reading::Shown => ask_shown(b, nodes, props, at, name),
+        Reading::Shown => ask_raw(b, nodes, props, at, name),
         Reading::Raw => ask_raw(b, nodes, props, at, name),
         Reading::Str => ask_str(b, nodes, props, at, name),
         Reading::U32 => ask_u32(b, nodes, props, at, name),
@@ -163,11 +162,11 @@ fn tell(
     b: &[u8],
     path: &[u8],
     name: &[u8],
+    reading: Reading,
     answer: Answer,
 ) -> Output {
     match answer {
-        Answer::Shown { start, len } => shown(text, rows::cut(b, start, len)),
-        Answer::Raw { start, len } => raw(text, rows::cut(b, start, len)),
+        Answer::Raw { start, len } => value_as(text, rows::cut(b, start, len), reading),
         Answer::Str { start, len } => string(text, rows::cut(b, start, len)),
         Answer::Number(n) => number(text, n),
         Answer::Refused { why, width } => refused(text, file, path, name, why, width),
@@ -193,7 +192,7 @@ pub fn put(
                 row,
             };
             let answer = ask(b, nodes, props, at, name, reading);
-            tell(text, file, b, path, name, answer)
+            tell(text, file, b, path, name, reading, answer)
         }
         Found::Nothing => find::nothing(text, file, path),
         Found::Unusable => find::unusable(text, file),

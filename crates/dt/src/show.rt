@@ -20,14 +20,10 @@ fn in_names(b: u8) -> bool {
     }
 }
 
-fn wide(b: u8) -> u64 {
-    b as u64
-}
-
 // A byte as \xNN.
 fn escaped(text: &mut [u8], out: Output, b: u8) -> Output {
     let begun = output::bytes(text, out, b"\\x");
-    output::digits(text, begun, wide(b), 2)
+    output::digits(text, begun, output::short(b), 2)
 }
 
 // A byte of a line.

@@ -61,14 +61,6 @@ fn strings(text: &mut [u8], from: Output, v: &[u8]) -> Output {
     out
 }
 
-fn wide(n: u32) -> u64 {
-    n as u64
-}
-
-fn short(b: u8) -> u64 {
-    b as u64
-}
-
 // A space before all but the first of a row of things.
 fn apart(text: &mut [u8], out: Output, i: usize) -> Output {
     if i == 0 {
@@ -83,7 +75,7 @@ fn cells(text: &mut [u8], from: Output, v: &[u8]) -> Output {
     let mut i = 0;
     while i < count {
         let next = apart(text, out, i);
-        out = output::hex(text, next, wide(reader::word_at(v, i * CELL)), 8);
+        out = output::hex(text, next, output::word(reader::word_at(v, i * CELL)), 8);
         i += 1;
     }
     output::byte(text, out, b'>')
@@ -95,7 +87,7 @@ pub fn pairs(text: &mut [u8], from: Output, v: &[u8]) -> Output {
     let mut i = 0;
     while i < v.len() {
         let next = apart(text, out, i);
-        out = output::digits(text, next, short(v[i]), 2);
+        out = output::digits(text, next, output::short(v[i]), 2);
         i += 1;
     }
     out

@@ -17,10 +17,6 @@ const LENGTH_AT: usize = 4;
 
 const VERSION_AT: usize = 20;
 
-fn wide(n: u32) -> u64 {
-    n as u64
-}
-
 // The number of a refusal.
 fn code(why: DeviceTreeError) -> u64
     ensures { λ r. ⌜ r ≡ getD (refusalNumbers (whyOf why)) 0 0 ⌝ }
@@ -62,7 +58,7 @@ struct Numbers {
 // What a blob has at a position, and what it is held against.
 fn found(b: &[u8], pos: usize, second: usize) -> Numbers {
     Numbers {
-        first: wide(reader::word_at(b, pos)),
+        first: output::word(reader::word_at(b, pos)),
         second: second as u64,
     }
 }
@@ -71,7 +67,7 @@ fn found(b: &[u8], pos: usize, second: usize) -> Numbers {
 fn placed(b: &[u8], pos: usize) -> Numbers {
     Numbers {
         first: pos as u64,
-        second: wide(reader::word_at(b, pos)),
+        second: output::word(reader::word_at(b, pos)),
     }
 }
 

@@ -8,14 +8,15 @@ use native.Mathlib.Numerals.{add-one}
 use mathlib.Core.List.{List, [], _∷_, _++_, append-assoc, append-nil}
 use mathlib.Core.Bool.{Bool, true, false, _||_, true≢false}
 use lib.ListN.{length, drop, getD, length-drop, drop-of-length-le}
-use lib.Seq.{take-suc, drop-cons, getD-drop, getD-take, ext-getD}
+use lib.Seq.{take-suc, drop-cons, getD-drop, ext-getD}
 use borrow.Author.Tests.{eq-eqb, ne-eqb}
 use Rattle.format.specs.Bytes.{part, AreBytes}
 use Rattle.format.specs.Find.{SLASH, head, rest, same}
 use Rattle.format.proofs.Tools.{split, tested, if-yes, if-no}
 use Rattle.format.proofs.Bytes.{part-length}
 use Rattle.format.proofs.Names.{same-is}
-use Rattle.lookup.specs.Places.{NameEnd, Plain, lowest}
+use Rattle.lookup.specs.Places.{NameEnd, Scan, lowest}
+use Rattle.lookup.proofs.RowLaws.{part-at}
 
 -- ---- the same bytes
 
@@ -35,12 +36,8 @@ module _ (s : List ℕ) (a : ℕ) (t : List ℕ) (b n : ℕ) where
   abbrev pub Alike : ℕ → Type 0
   Alike i = (k : ℕ) → i ≤ k → k < n → getD s (a + k) 0 ≡ getD t (b + k) 0
 
-  part-byte : (l : List ℕ) (p i : ℕ) → i < n → getD (part l p n) i 0 ≡ getD l (p + i) 0
-  unfolding part
-  part-byte l p i h = getD-take n (drop p l) i 0 h ∙ getD-drop p l i 0
-
   parts-alike : part s a n ≡ part t b n → Alike 0
-  parts-alike e k lo h = sym (part-byte s a k h) ∙ ap (λ l. getD l k 0) e ∙ part-byte t b k h
+  parts-alike e k lo h = sym (part-at s a n k (a + k) h refl) ∙ ap (λ l. getD l k 0) e ∙ part-at t b n k (b + k) h refl
 
   module _ (fs : a + n ≤ length s) (ft : b + n ≤ length t) where
     pub alike-same : Alike 0 → true ≡ same (part s a n) (part t b n)
@@ -48,7 +45,7 @@ module _ (s : List ℕ) (a : ℕ) (t : List ℕ) (b n : ℕ) where
         let size : length (part s a n) ≡ length (part t b n) = part-length s a n fs ∙ sym (part-length t b n ft) in
         let e : part s a n ≡ part t b n = ext-getD 0 (part s a n) (part t b n) size (λ i k.
         let inside : i < n = omega (arith, part-length s a n fs) in
-        part-byte s a i inside ∙ h i (omega arith) inside ∙ sym (part-byte t b i inside)) in
+        part-at s a n i (a + i) inside refl ∙ h i (omega arith) inside ∙ sym (part-at t b n i (b + i) inside refl)) in
         sym (rw e (same-self (part t b n)))
 
     pub byte-differs : (i : ℕ) → i < n → getD s (a + i) 0 ≢ getD t (b + i) 0 → false ≡ same (part s a n) (part t b n)
@@ -117,13 +114,6 @@ module _ (s : List ℕ) (a : ℕ) (t : List ℕ) (b n : ℕ) (bs : AreBytes s) (
 
 -- ---- the first name of a path
 
--- the bytes from `at` up to i have no slash
-pub record Scan (p : List ℕ) (at i : ℕ) : Type 0 where
-  pub low : at ≤ i
-  pub high : at ≤ length p → i ≤ length p
-  pub first : head (drop at p) ≡ part p at (i - at) ++ head (drop i p)
-  pub later : rest (drop at p) ≡ rest (drop i p)
-
 pub scan-start : (p : List ℕ) (at : ℕ) → Scan p at at
 unfolding part
 scan-start p at =
@@ -150,50 +140,22 @@ scan-more p at i x h d =
       later = x .later ∙ e₂;
     }
 
--- the same of bytes that are no slash, each by itself
-pub plain-start : (p : List ℕ) (at : ℕ) → Plain p at at
-plain-start p at = record { low = omega arith; inside = λ h. absurd (omega arith); none = λ k h l. absurd (omega arith) }
-
-pub plain-on : (p : List ℕ) (at i j : ℕ) → Plain p at i → Plain p i j → Plain p at j
-plain-on p at i j x y =
-    record {
-      low = omega (arith, x .low, y .low);
-      inside = λ h. split j i (λ l. let e : j ≡ i = omega (arith, l, y .low) in rw e (x .inside (omega (arith, h, e)))) (λ l. y .inside l);
-      none = λ k h l. split i k (λ m. y .none k m l) (λ m. x .none k h m);
-    }
-
 -- two tests that are both made, and both fail
 pub neither : (a b : Bool) → (a || b) ≡ false → (a ≡ false) × (b ≡ false)
 neither true b e = absurd (true≢false e)
 neither false b e = (refl, e)
 
 -- four bytes
-pub plain-word : (p : List ℕ) (i : ℕ) → i + 4 ≤ length p → getD p i 0 ≢ SLASH → getD p (i + 1) 0 ≢ SLASH → getD p (i + 2) 0 ≢ SLASH → getD p (i + 3) 0 ≢ SLASH → Plain p i (i + 4)
-plain-word p i h a b c d =
-    record {
-      low = omega arith;
-      inside = λ _. h;
-      none = λ k low high. split k i
-          (λ l. let e : k ≡ i = omega (arith, low, l) in rw e a)
-          (λ l. split k (i + 1)
-          (λ m. let e : k ≡ i + 1 = omega (arith, l, m) in rw e b)
-          (λ m. split k (i + 2)
-          (λ n. let e : k ≡ i + 2 = omega (arith, m, n) in rw e c)
-          (λ n. let e : k ≡ i + 3 = omega (arith, n, high) in rw e d)));
-    }
-
-scan-plain : (p : List ℕ) (at n : ℕ) → at + n ≤ length p → ((k : ℕ) → at ≤ k → k < at + n → getD p k 0 ≢ SLASH) → Scan p at (at + n)
-unfolding SLASH
-scan-plain p at zero h none = rw add-zero (scan-start p at)
-scan-plain p at (suc n) h none =
-    let e : at + suc n ≡ at + n + 1 = omega arith in
-    rw e (scan-more p at (at + n) (scan-plain p at n (omega arith) (λ k l m. none k l (omega arith))) (omega arith) (none (at + n) (omega arith) (omega arith)))
-
-pub plain-scan : (p : List ℕ) (at r : ℕ) → Plain p at r → Scan p at r
-plain-scan p at r x =
-    split r at
-    (λ h. let e : r ≡ at = omega (arith, h, x .low) in rw e (scan-start p at))
-    (λ h. let e : at + (r - at) ≡ r = omega (arith, x .low) in rw e at (scan-plain p at (r - at) (rw e (x .inside h)) (λ k l m. x .none k l (omega (arith, e, m)))))
+pub scan-word : (p : List ℕ) (at i : ℕ) → i + 4 ≤ length p → getD p i 0 ≢ 0x2f → getD p (i + 1) 0 ≢ 0x2f → getD p (i + 2) 0 ≢ 0x2f → getD p (i + 3) 0 ≢ 0x2f
+    → Scan p at i → Scan p at (i + 4)
+scan-word p at i h a b c d x =
+    let e₂ : i + 2 ≡ i + 1 + 1 = omega arith in
+    let e₃ : i + 3 ≡ i + 2 + 1 = omega arith in
+    let e₄ : i + 4 ≡ i + 3 + 1 = omega arith in
+    let one : Scan p at (i + 1) = scan-more p at i x (omega arith) a in
+    let two : Scan p at (i + 2) = rw e₂ (scan-more p at (i + 1) one (omega arith) b) in
+    let three : Scan p at (i + 3) = rw e₃ (scan-more p at (i + 2) two (omega arith) c) in
+    rw e₄ (scan-more p at (i + 3) three (omega arith) d)
 
 pub scan-slash : (p : List ℕ) (at i : ℕ) → Scan p at i → i < length p → getD p i 0 ≡ 0x2f → NameEnd p at i
 unfolding head rest SLASH

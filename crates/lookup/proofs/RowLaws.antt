@@ -6,10 +6,11 @@ use native.Mathlib.Omega.{arith}
 use mathlib.Core.List.{List, []}
 use mathlib.Core.Bool.{true, false}
 use lib.Dec.{eqb, leb}
-use lib.ListN.{length, take, drop, getD}
+use lib.ListN.{length, drop, getD}
 use lib.Seq.{getD-drop, getD-take}
 use borrow.Author.Tests.{eqb-true, eqb-false, ne-eqb, le-ltb, lt-ltb, le-leb}
 use Rattle.format.specs.Choice.{if_then_else_}
+use Rattle.format.specs.Bytes.{part}
 use Rattle.format.specs.Format.{NONE, nodeWidth, propertyWidth}
 use Rattle.format.specs.Rows.{at, nodesIn, propertiesIn}
 use Rattle.format.specs.Rows as rows
@@ -68,9 +69,10 @@ property-is zero t k h = absurd (omega arith)
 property-is (suc n) t zero h = refl
 property-is (suc n) t (suc k) h = property-is n (drop 4 t) k (omega arith) ∙ property-shift t k
 
--- a number of the part of a table from p on
-pub from-part : (t : List ℕ) (p j k : ℕ) → p + j ≡ k → k < length t → getD (take (length t - p) (drop p t)) j 0 ≡ getD t k 0
-from-part t p j k e h = getD-take (length t - p) (drop p t) j 0 (omega (arith, e, h)) ∙ moved t p j k e
+-- a number of a part
+pub part-at : (t : List ℕ) (p n i k : ℕ) → i < n → p + i ≡ k → getD (part t p n) i 0 ≡ getD t k 0
+unfolding part
+part-at t p n i k h e = getD-take n (drop p t) i 0 h ∙ moved t p i k e
 
 -- the numbers that were read are the row's
 pub node-read : (n : ℕ) (t : List ℕ) (r : ℕ) (x : NodeRow) → r < n → IsNode x (nodeAt t r) → IsNode x (at (nodesIn n t) r)
@@ -108,9 +110,9 @@ module _ (R : List rows.NodeRow) where
   unfolding linksGood
   child-bad r l is e = simp (← is, e)
 
-  pub both-good : (r l m : ℕ) → l ≡ at R r .nextSibling → m ≡ at R r .firstChild → linkGood R r l ≡ true → linkGood R r m ≡ true → linksGood R r ≡ true
+  pub child-good : (r l m : ℕ) → l ≡ at R r .firstChild → m ≡ at R r .nextSibling → linkGood R r l ≡ true → linksGood R r ≡ linkGood R r m
   unfolding linksGood
-  both-good r l m is js e f = simp (← is, ← js, e, f)
+  child-good r l m is js e = simp (← is, ← js, e)
 
 -- how many rows are ahead of a link
 unfoldable pub ahead : ℕ → ℕ → ℕ

@@ -1,9 +1,8 @@
 -- Rows by the numbers of their table, and the places that private functions go by. No public promise cites it.
 use mathlib.Core.Path.{_≡_}
-use mathlib.Core.Logic.{_≢_}
 use Prim.Native.Nat.{ℕ, zero, suc, _+_, _-_, _*_, _≤_, _<_}
 use mathlib.Core.Bool.{true, _&&_}
-use mathlib.Core.List.{List}
+use mathlib.Core.List.{List, _++_}
 use lib.ListN.{length, getD, drop}
 use lib.Dec.{eqb}
 use Rattle.format.specs.Choice.{if_then_else_}
@@ -12,7 +11,7 @@ use Rattle.format.specs.Bytes.{part}
 use Rattle.format.specs.Format.{NONE, nodeWidth, propertyWidth}
 use Rattle.format.specs.Rows.{nodesIn}
 use Rattle.format.specs.Rows as rows
-use Rattle.format.specs.Find.{SLASH, head, rest, same}
+use Rattle.format.specs.Find.{head, rest, same}
 use Rattle.format.specs.Lookup.{linkGood, linksGood, nameInside, nameAt}
 use Rattle.lookup.specs.declared.judge.NodeRow.{NodeRow}
 use Rattle.lookup.specs.declared.judge.PropRow.{PropRow}
@@ -70,11 +69,12 @@ pub record Both (s : List ℕ) (start len : ℕ) (t : List ℕ) (from end : ℕ)
   pub order : from ≤ end
   pub two : end ≤ length t
 
--- no slash stands in a path from `at` up to r
-pub record Plain (p : List ℕ) (at r : ℕ) : Type 0 where
-  pub low : at ≤ r
-  pub inside : at < r → r ≤ length p
-  pub none : (k : ℕ) → at ≤ k → k < r → getD p k 0 ≢ SLASH
+-- the bytes of a path from `at` up to i have no slash
+pub record Scan (p : List ℕ) (at i : ℕ) : Type 0 where
+  pub low : at ≤ i
+  pub high : at ≤ length p → i ≤ length p
+  pub first : head (drop at p) ≡ part p at (i - at) ++ head (drop i p)
+  pub later : rest (drop at p) ≡ rest (drop i p)
 
 -- the first name of a path from `at` on ends at r
 pub record NameEnd (p : List ℕ) (at r : ℕ) : Type 0 where

@@ -1,11 +1,11 @@
 // Names: whether two parts are the same bytes, and where the first name of a path ends.
 ghost use mathlib.Core.Path.{_≡_};
 ghost use mathlib.Core.Bool.{false};
-ghost use Prim.Native.Nat.{_+_, _-_, _≤_, _<_};
+ghost use Prim.Native.Nat.{ℕ, _+_, _-_, _≤_, _<_};
 ghost use lib.ListN.{length};
 ghost use Rattle.format.specs.Bytes.{part};
 ghost use Rattle.format.specs.Find.{same};
-ghost use Rattle.lookup.specs.Places.{Both, NameEnd, Plain, lowest};
+ghost use Rattle.lookup.specs.Places.{Both, NameEnd, Scan, lowest};
 
 // How many bytes are compared at once.
 const WORD: usize = 4;
@@ -85,14 +85,14 @@ pub(crate) fn same_part(s: &[u8], start: u32, len: u32, t: &[u8], from: usize, e
 // Whether one of the four bytes at i is a slash. All are compared, whatever the first ones are: so it is one comparison for the machine.
 fn slash_in_word(path: &[u8], i: usize) -> bool
     requires { ⌜ i + 4 ≤ length (now path) ⌝ }
-    ensures { λ r. ⌜ (r ≡ false → Plain (now (path .entry)) i (i + 4)) ⌝ }
+    ensures { λ r. ⌜ ((at : ℕ) → r ≡ false → Scan (now (path .entry)) at i → Scan (now (path .entry)) at (i + 4)) ⌝ }
 {
     (path[i] == b'/') | (path[i + 1] == b'/') | (path[i + 2] == b'/') | (path[i + 3] == b'/')
 }
 
 // How far the path from at on has words without a slash.
 fn plain_words(path: &[u8], at: usize) -> usize
-    ensures { λ r. ⌜ Plain (now (path .entry)) at r ⌝ }
+    ensures { λ r. ⌜ Scan (now (path .entry)) at r ⌝ }
 {
     let mut i = at;
     while i < path.len() {

@@ -2,18 +2,17 @@
 use mathlib.Core.Path.{_∙_, sym}
 use borrow.Author.Tests.{not-true, not-false}
 use borrow.Author.Needs.{needs}
-use Rattle.format.specs.Lookup.{linksGood}
+use Rattle.lookup.proofs.RowLaws.{child-bad, child-good}
 use Rattle.lookup.proofs.judge.links_are_good.Statement.{statement}
 use Rattle.lookup.proofs.judge.links_are_good.Tie as tie
 
 returns : tie.Need-returns
-unfolding linksGood
-returns c R e is = rw (← is .child, sym (c .before .link-is-good .ensures R e) ∙ not-true _ (c .if1 .taken))
+returns c R e is = sym (child-bad R _ _ (is .child) (sym (c .before .link-is-good .ensures R e) ∙ not-true _ (c .if1 .taken)))
 
 returns-2 : tie.Need-returns-2
-unfolding linksGood
 returns-2 c R e is =
-    rw (← is .child, ← is .next, sym (c .before .before .link-is-good .ensures R e) ∙ not-false _ (c .before .if1 .left)) (c .link-is-good2 .ensures R e)
+    c .link-is-good2 .ensures R e
+    ∙ sym (child-good R _ _ _ (is .child) (is .next) (sym (c .before .before .link-is-good .ensures R e) ∙ not-false _ (c .before .if1 .left)))
 
 pub links-are-good-spec : {M : Type 1} → statement M
 links-are-good-spec = tie.close (tie.spec (λ c κs. search needs) returns (λ c κs. search needs) returns-2)

@@ -3,7 +3,7 @@ use mathlib.Core.Path.{_∙_, sym}
 use borrow.Author.Tests.{not-true, not-false}
 use borrow.Author.Needs.{needs}
 use Rattle.format.specs.Lookup.{nameInside}
-use Rattle.lookup.proofs.RowLaws.{next-bad, child-bad, both-good}
+use Rattle.lookup.proofs.RowLaws.{next-bad, child-bad, child-good}
 use Rattle.lookup.proofs.judge.row_is_good.Statement.{statement}
 use Rattle.lookup.proofs.judge.row_is_good.Tie as tie
 
@@ -19,9 +19,8 @@ returns-3 c b R size few is =
     let child = c .before .before in
     let next = child .before .before in
     let good =
-    both-good R _ _ _ (is .next) (is .child)
-    (sym (next .leads-on .ensures R few) ∙ not-false _ (child .before .if1 .left))
-    (sym (child .leads-on2 .ensures R few) ∙ not-false _ (c .before .if2 .left))
+    child-good R _ _ _ (is .child) (is .next) (sym (child .leads-on2 .ensures R few) ∙ not-false _ (c .before .if2 .left))
+    ∙ sym (next .leads-on .ensures R few) ∙ not-false _ (child .before .if1 .left)
     in
     rw (good, ← is .name, ← is .len, size) (c .lies-in .ensures)
 

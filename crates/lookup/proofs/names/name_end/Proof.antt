@@ -2,7 +2,8 @@
 use borrow.Author.Needs.{needs}
 use Prim.Native.Nat.{_-_}
 use lib.ListN.{length}
-use Rattle.lookup.proofs.NameLaws.{Scan, plain-scan, scan-more, scan-slash, scan-end}
+use Rattle.lookup.specs.Places.{Scan}
+use Rattle.lookup.proofs.NameLaws.{scan-more, scan-slash, scan-end}
 use Rattle.lookup.proofs.names.name_end.Statement.{statement}
 use Rattle.lookup.proofs.names.name_end.Tie as tie
 
@@ -13,7 +14,7 @@ abbrev μ-loop : tie.MeasureT-loop
 μ-loop path at i₀ i = length path - i
 
 loop-holds : tie.Need-loop-holds Inv-loop μ-loop
-loop-holds c = plain-scan _ _ _ (c .plain-words .ensures)
+loop-holds c = c .plain-words .ensures
 
 returns : tie.Need-returns Inv-loop μ-loop
 returns c = scan-slash _ _ _ (c .before .before .before .loop .inv) (c .before .before .loop-test .taken) (c .if1 .taken)

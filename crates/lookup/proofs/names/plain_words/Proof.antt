@@ -3,19 +3,19 @@ use borrow.Author.Needs.{needs}
 use native.Mathlib.Omega.{arith}
 use Prim.Native.Nat.{_-_}
 use lib.ListN.{length}
-use Rattle.lookup.specs.Places.{Plain}
-use Rattle.lookup.proofs.NameLaws.{plain-start, plain-on}
+use Rattle.lookup.specs.Places.{Scan}
+use Rattle.lookup.proofs.NameLaws.{scan-start}
 use Rattle.lookup.proofs.names.plain_words.Statement.{statement}
 use Rattle.lookup.proofs.names.plain_words.Tie as tie
 
 abbrev Inv-loop : tie.InvT-loop
-Inv-loop path at i₀ i = Plain path at i
+Inv-loop path at i₀ i = Scan path at i
 
 abbrev μ-loop : tie.MeasureT-loop
 μ-loop path at i₀ i = length path - i
 
 loop-holds : tie.Need-loop-holds Inv-loop μ-loop
-loop-holds c = plain-start _ _
+loop-holds c = scan-start _ _
 
 returns : tie.Need-returns Inv-loop μ-loop
 returns c = c .before .before .loop .inv
@@ -27,7 +27,7 @@ returns-2 : tie.Need-returns-2 Inv-loop μ-loop
 returns-2 c = c .before .before .before .before .loop .inv
 
 loop-again : tie.Need-loop-again Inv-loop μ-loop
-loop-again c = plain-on _ _ _ _ (c .before .before .before .before .loop .inv) (c .before .slash-in-word .ensures (c .if2 .left))
+loop-again c = c .before .slash-in-word .ensures _ (c .if2 .left) (c .before .before .before .before .loop .inv)
 
 returns-3 : tie.Need-returns-3 Inv-loop μ-loop
 returns-3 c = c .before .loop .inv

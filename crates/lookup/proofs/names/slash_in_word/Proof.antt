@@ -1,18 +1,16 @@
 -- `slash_in_word` meets its contract: where it says no, each of the four says no. Assumes nothing.
 use borrow.Author.Needs.{needs}
 use borrow.Author.Tests.{eqb-false}
-use Rattle.format.specs.Find.{SLASH}
-use Rattle.lookup.proofs.NameLaws.{plain-word, neither}
+use Rattle.lookup.proofs.NameLaws.{scan-word, neither}
 use Rattle.lookup.proofs.names.slash_in_word.Statement.{statement}
 use Rattle.lookup.proofs.names.slash_in_word.Tie as tie
 
 returns : tie.Need-returns
-unfolding SLASH
-returns c e =
+returns c at e =
     let three = neither _ _ e in
     let two = neither _ _ (three .0) in
     let one = neither _ _ (two .0) in
-    plain-word _ _ (c .before .before .before .before .pre) (eqb-false _ _ (one .0)) (eqb-false _ _ (one .1)) (eqb-false _ _ (two .1)) (eqb-false _ _ (three .1))
+    scan-word _ at _ (c .before .before .before .before .pre) (eqb-false _ _ (one .0)) (eqb-false _ _ (one .1)) (eqb-false _ _ (two .1)) (eqb-false _ _ (three .1))
 
 pub slash-in-word-spec : {M : Type 1} → statement M
 slash-in-word-spec =
