@@ -1,6 +1,5 @@
 // The lookups of crate lookup. A path or a property is looked up in the tables of a load or in any others; the blob, the tables and
 // their counts are lent, and nothing but the answer's numbers is written.
-ghost use mathlib.Core.List.{_∷_, []};
 ghost use mathlib.Core.Path.{_≡_};
 ghost use lib.Seq.{sets};
 ghost use Rattle.format.specs.Answer.{numbers, itself, nothing, place};

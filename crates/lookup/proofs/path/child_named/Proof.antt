@@ -1,6 +1,5 @@
 -- `child_named` meets its contract: the link is a good one of an earlier row, and what is left from it gives what the first link
 -- gives (`Kids`). Measure: the rows ahead of the link. Assumes nothing.
-use borrow.Author.Needs.{needs}
 use borrow.Author.Tests.{not-true, not-false}
 use native.Mathlib.Omega.{arith}
 use mathlib.Core.Path.{_∙_, sym, refl}
