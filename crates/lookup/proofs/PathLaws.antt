@@ -5,8 +5,7 @@ use Prim.Native.Nat.{ℕ, zero, suc, _+_, _-_, _/_, _≤_, _<_}
 use native.Mathlib.Omega.{arith}
 use mathlib.Core.List.{List, [], _∷_}
 use mathlib.Core.Bool.{true, false, _&&_}
-use lib.ListN.{length, take, drop, getD, length-drop, drop-of-length-le}
-use lib.Seq.{drop-cons, take-length}
+use lib.ListN.{length, drop, getD}
 use borrow.Author.Tests.{ne-eqb, eq-eqb, leb-true, le-leb, lt-leb, lt-ltb, le-ltb}
 use Rattle.format.specs.Answer.{Refusal, Outcome, ok, refused, _>>=_, nothingFound, notUsable}
 use Rattle.format.specs.Bytes.{part}
@@ -20,10 +19,11 @@ use Rattle.format.proofs.Tools.{both, tested, if-yes, if-no}
 use Rattle.format.proofs.Answer.{never, ok-same, then-ok, then-refused, check-ok, check-no}
 use Rattle.format.proofs.Lookup.{across-other, across-here, across-below, across-none, across-bad}
 use Rattle.format.proofs.Reached.{There, follows, led, links-of, links-good, Enough, next-enough, turns-enough}
-use Rattle.lookup.specs.Places.{IsNode, NameEnd, childFrom, Kids, ChildGives}
+use Rattle.lookup.specs.Places.{IsNode, childFrom, Kids, ChildGives}
 use Rattle.lookup.specs.declared.judge.NodeRow.{NodeRow}
 use Rattle.lookup.specs.declared.path.Child.{Child}
 use Rattle.lookup.specs.declared.path.Child.the-variants as child
+use Rattle.lookup.proofs.NameLaws.{tail-lent}
 use Rattle.lookup.proofs.RowLaws.{leads}
 
 -- ---- one turn of the search for a child
@@ -103,45 +103,55 @@ module _ (b : List ℕ) (R : List rows.NodeRow) where
 
 -- ---- the path: before each part of it the row is judged, and what is left below it gives the whole answer
 
-pub record Way (b : List ℕ) (R : List rows.NodeRow) (goal : Outcome ℕ) (path : List ℕ) (row link i : ℕ) : Type 0 where
+pub record Way (b : List ℕ) (R : List rows.NodeRow) (goal : Outcome ℕ) (row link : ℕ) (path : List ℕ) : Type 0 where
   pub there : row < length R
   pub good : linkGood R row link ≡ true
   pub own : link ≡ at R row .firstChild
-  pub same : goal ≡ down b R row (drop i path)
+  pub same : goal ≡ down b R row path
 
 module _ (b : List ℕ) (R : List rows.NodeRow) where
-  pub way-start : (path : List ℕ) (row : ℕ) (x : NodeRow) → row < length R → linksGood R row ≡ true → IsNode x (at R row) → Way b R (down b R row path) path row (x .child) 0
-  way-start path row x h g is = record { there = h; good = rw (is .child) (links-of b R row g .0); own = is .child; same = refl }
+  pub reach-bad : (path : List ℕ) (row : ℕ) → linksGood R row ≡ false → refused notUsable ≡ reach b R row path
+  unfolding reach
+  reach-bad path row g = sym (then-refused _ _ (check-no _ g))
 
-  down-step : (r : ℕ) (path : List ℕ) (i : ℕ) → i < length path → down b R r (drop i path) ≡ across b R (length R) (at R r .firstChild) (head (drop i path)) (rest (drop i path))
+  pub way-start : (path : List ℕ) (row : ℕ) (x : NodeRow) → row < length R → linksGood R row ≡ true → IsNode x (at R row) → Way b R (reach b R row path) row (x .child) path
+  unfolding reach
+  way-start path row x h g is = record { there = h; good = rw (is .child) (links-of b R row g .0); own = is .child; same = then-ok _ _ (check-ok _ g) refl }
+
+  down-end : (r : ℕ) (path : List ℕ) → length path ≤ 0 → ok r ≡ down b R r path
   unfolding down
-  down-step r path i h = rw (drop-cons path i 0 h)
+  down-end r [] h = refl
+  down-end r (c ∷ path) h = absurd (omega arith)
 
-  module _ (goal : Outcome ℕ) (path : List ℕ) (row link i : ℕ) (w : Way b R goal path row link i) where
-    pub way-end : length path ≤ i → ok row ≡ goal
-    unfolding down
-    way-end h = sym (w .same ∙ rw (drop-of-length-le path h))
+  down-step : (r : ℕ) (path : List ℕ) → 0 < length path → down b R r path ≡ across b R (length R) (at R r .firstChild) (head path) (rest path)
+  unfolding down
+  down-step r [] h = absurd (omega arith)
+  down-step r (c ∷ path) h = refl
 
-    module _ (h : i < length path) (end : ℕ) (e : NameEnd path i end) where
+  module _ (goal : Outcome ℕ) (row link : ℕ) (path : List ℕ) (w : Way b R goal row link path) where
+    pub way-end : length path ≤ 0 → ok row ≡ goal
+    way-end h = down-end row path h ∙ sym (w .same)
+
+    module _ (h : 0 < length path) (name later : List ℕ) (e : head path ≡ name) (f : rest path ≡ later) where
       first-enough : Enough b R (length R) link
       first-enough = (
         omega (arith, w .there),
         λ other. ⊎-elim (λ same. absurd (other same)) (λ k. omega (arith, k .above)) (follows b R row link (w .good)),
       )
 
-      splits-here : goal ≡ (childFrom b R (length R) link (part path i (end - i)) >>= λ c. down b R c (drop (end + 1) path))
+      splits-here : goal ≡ (childFrom b R (length R) link name >>= λ c. down b R c later)
       splits-here =
           w .same
-          ∙ down-step row path i h
-          ∙ rw (← w .own, e .first, e .later) (splits b R (length R) link (led b R row link (w .good)) first-enough (part path i (end - i)) (drop (end + 1) path))
+          ∙ down-step row path h
+          ∙ rw (← w .own, e, f) (splits b R (length R) link (led b R row link (w .good)) first-enough name later)
 
-      pub way-refused : (r : Refusal) → childFrom b R (length R) link (part path i (end - i)) ≡ refused r → refused r ≡ goal
-      way-refused r f = sym (splits-here ∙ then-refused _ _ f)
+      pub way-refused : (r : Refusal) → childFrom b R (length R) link name ≡ refused r → refused r ≡ goal
+      way-refused r g = sym (splits-here ∙ then-refused _ _ g)
 
-      pub way-down : (c l : ℕ) → childFrom b R (length R) link (part path i (end - i)) ≡ ok c → l ≡ at R c .firstChild → Way b R goal path c l (end + 1)
-      way-down c l f own =
-          let good = found-good b R (length R) link (part path i (end - i)) c (led b R row link (w .good)) f in
-          record { there = good .0; good = rw own (links-of b R c (good .1) .0); own = own; same = splits-here ∙ then-ok _ _ f refl }
+      pub way-down : (c l : ℕ) → childFrom b R (length R) link name ≡ ok c → l ≡ at R c .firstChild → Way b R goal c l later
+      way-down c l g own =
+          let good = found-good b R (length R) link name c (led b R row link (w .good)) g in
+          record { there = good .0; good = rw own (links-of b R c (good .1) .0); own = own; same = splits-here ∙ then-ok _ _ g refl }
 
 -- ---- the children
 
@@ -242,26 +252,13 @@ module _ (t : List ℕ) (n row : ℕ) where
     can-be-used k = rw (le-leb n (length t / 7) h, lt-ltb row n k)
 
 module _ (b t : List ℕ) (n row : ℕ) (path : List ℕ) where
-  reach-bad : linksGood (nodesIn n t) row ≡ false → reach b (nodesIn n t) row path ≡ refused notUsable
-  unfolding reach
-  reach-bad g = then-refused _ _ (check-no _ g)
-
-  reach-good : linksGood (nodesIn n t) row ≡ true → reach b (nodesIn n t) row path ≡ down b (nodesIn n t) row path
-  unfolding reach
-  reach-good g = then-ok _ _ (check-ok _ g) refl
-
   pub from-unusable : usable t n row ≡ false → refused notUsable ≡ find-from b t n row path
   unfolding find-from
   from-unusable u = sym (then-refused _ _ (check-no _ u))
 
-  module _ (u : usable t n row ≡ true) where
-    pub from-bad : linksGood (nodesIn n t) row ≡ false → refused notUsable ≡ find-from b t n row path
-    unfolding find-from
-    from-bad g = sym (then-ok _ _ (check-ok _ u) (reach-bad g))
-
-    pub from-good : linksGood (nodesIn n t) row ≡ true → down b (nodesIn n t) row path ≡ find-from b t n row path
-    unfolding find-from
-    from-good g = sym (then-ok _ _ (check-ok _ u) (reach-good g))
+  pub from-reach : usable t n row ≡ true → reach b (nodesIn n t) row path ≡ find-from b t n row path
+  unfolding find-from
+  from-reach u = sym (then-ok _ _ (check-ok _ u) refl)
 
 slash-none : (path : List ℕ) → length path ≡ 0 → afterSlash path ≡ refused nothingFound
 unfolding afterSlash
@@ -294,8 +291,6 @@ module _ (b t : List ℕ) (n : ℕ) (path : List ℕ) where
       tree-other d = sym (then-ok _ _ (check-ok _ u) (then-refused _ _ (slash-other path l d)))
 
       -- after the slash, a path from row 0
-      pub tree-from : getD path 0 0 ≡ 0x2f → find-from b t n 0 (take (length path - 1) (drop 1 path)) ≡ find b t n path
-      unfolding find find-from
-      tree-from d =
-          let whole : take (length path - 1) (drop 1 path) ≡ drop 1 path = rw (← length-drop 1 path) (take-length (drop 1 path)) in
-          then-ok _ _ (check-ok _ u) (rw whole) ∙ sym (then-ok _ _ (check-ok _ u) (then-ok _ _ (slash-first path l d) refl))
+      pub tree-reach : getD path 0 0 ≡ 0x2f → reach b (nodesIn n t) 0 (part path 1 (length path - 1)) ≡ find b t n path
+      unfolding find
+      tree-reach d = rw (tail-lent path 1) (sym (then-ok _ _ (check-ok _ u) (then-ok _ _ (slash-first path l d) refl)))

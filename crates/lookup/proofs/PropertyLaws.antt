@@ -6,7 +6,6 @@ use mathlib.Core.List.{List}
 use mathlib.Core.Bool.{true, false}
 use lib.Dec.{leb}
 use lib.ListN.{length}
-use lib.Seq.{take-length}
 use borrow.Author.Tests.{le-leb, lt-leb}
 use Rattle.format.specs.Answer.{Outcome, ok, refused, Span, nothingFound, notUsable}
 use Rattle.format.specs.Bytes.{part}
@@ -23,10 +22,6 @@ use Rattle.lookup.specs.Places.{IsNode, IsProperty, nodeAt, propertyAt}
 use Rattle.lookup.specs.declared.judge.NodeRow.{NodeRow}
 use Rattle.lookup.specs.declared.judge.PropRow.{PropRow}
 use Rattle.lookup.proofs.RowLaws.{properties-length, node-read, property-read}
-
-pub whole-part : (name : List ℕ) → part name 0 (length name - 0) ≡ name
-unfolding part
-whole-part name = let e : length name - 0 ≡ length name = omega arith in rw e (take-length name)
 
 -- ---- a turn: the property rows from k up to `end`, of the n that the table t holds
 
@@ -63,13 +58,13 @@ module _ (b t name : List ℕ) (end n k : ℕ) (few : end ≤ n) where
         unfolding propertyName
         named = rw (row .name, row .len)
 
-        pub found-here : same (part b (x .name) (x .len)) (part name 0 (length name - 0)) ≡ true → ok (record { offset = x .value; size = x .size }) ≡ left
+        pub found-here : same (part b (x .name) (x .len)) name ≡ true → ok (record { offset = x .value; size = x .size }) ≡ left
         unfolding among valueSpan
-        found-here g = rw one-more (sym (if-yes _ _ inside ∙ if-yes _ _ (rw named (rw whole-part at g)) ∙ rw (row .value, row .size)))
+        found-here g = rw one-more (sym (if-yes _ _ inside ∙ if-yes _ _ (rw named g) ∙ rw (row .value, row .size)))
 
-        pub goes-on : same (part b (x .name) (x .len)) (part name 0 (length name - 0)) ≡ false → left ≡ among b (propertiesIn n t) (end - (k + 1)) (k + 1) name
+        pub goes-on : same (part b (x .name) (x .len)) name ≡ false → left ≡ among b (propertiesIn n t) (end - (k + 1)) (k + 1) name
         unfolding among
-        goes-on g = rw one-more (if-yes _ _ inside ∙ if-no _ _ (rw named (rw whole-part at g)))
+        goes-on g = rw one-more (if-yes _ _ inside ∙ if-no _ _ (rw named g))
 
 -- ---- the whole
 

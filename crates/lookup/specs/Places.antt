@@ -53,40 +53,21 @@ pub record IsProperty (r : PropRow) (x : rows.PropertyRow) : Type 0 where
   pub value : r .value ≡ x .valueOffset
   pub size : r .size ≡ x .valueLength
 
--- a row that is reached and judged, in a table that has room for the rows counted
-pub record Judged (t : List ℕ) (count row : ℕ) : Type 0 where
-  pub below : row < count
-  pub room : nodeWidth * count ≤ length t
-  pub good : linksGood (nodesIn count t) row ≡ true
-
 -- the four bytes of s at p as a number, the first of them the lowest
 unfoldable pub lowest : List ℕ → ℕ → ℕ
 lowest s p = ((getD s (p + 3) 0 * 256 + getD s (p + 2) 0) * 256 + getD s (p + 1) 0) * 256 + getD s p 0
 
--- a part lies in one list and a range in another
-pub record Both (s : List ℕ) (start len : ℕ) (t : List ℕ) (from end : ℕ) : Type 0 where
-  pub one : start + len ≤ length s
-  pub order : from ≤ end
-  pub two : end ≤ length t
+-- the first i bytes of a path have no slash
+pub record Scan (p : List ℕ) (i : ℕ) : Type 0 where
+  pub inside : i ≤ length p
+  pub first : head p ≡ part p 0 i ++ head (drop i p)
+  pub later : rest p ≡ rest (drop i p)
 
--- the bytes of a path from `at` up to i have no slash
-pub record Scan (p : List ℕ) (at i : ℕ) : Type 0 where
-  pub low : at ≤ i
-  pub high : at ≤ length p → i ≤ length p
-  pub first : head (drop at p) ≡ part p at (i - at) ++ head (drop i p)
-  pub later : rest (drop at p) ≡ rest (drop i p)
-
--- the first name of a path from `at` on ends at r
-pub record NameEnd (p : List ℕ) (at r : ℕ) : Type 0 where
-  pub low : at ≤ r
-  pub high : at ≤ length p → r ≤ length p
-  pub first : head (drop at p) ≡ part p at (r - at)
-  pub later : rest (drop at p) ≡ drop (r + 1) p
-
--- a range of a path
-pub record Within (p : List ℕ) (at end : ℕ) : Type 0 where
-  pub order : at ≤ end
-  pub inside : end ≤ length p
+-- the first name of a path ends at r
+pub record NameEnd (p : List ℕ) (r : ℕ) : Type 0 where
+  pub inside : r ≤ length p
+  pub first : head p ≡ part p 0 r
+  pub later : rest p ≡ drop (r + 1) p
 
 -- row r and its later siblings, each reached in turn up to the first named `first`: the inner part of `across`
 unfoldable pub childFrom : List ℕ → List rows.NodeRow → ℕ → ℕ → List ℕ → Outcome ℕ

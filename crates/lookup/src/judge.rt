@@ -34,18 +34,19 @@ pub(crate) struct PropRow {
     pub(crate) size: u32,
 }
 
-// A row's place is six times its number and once more: two short sums, where the one product takes the processor longer, and a search
-// waits for it at every row.
+// A row's place is seven times its number. The next link's is two sums that the processor makes side by side, as a search waits for it
+// at every row; the others' follow each other.
 pub(crate) fn node_at(nodes: &[u32], row: usize) -> NodeRow
     requires { ⌜ nodeWidth * (row + 1) ≤ length (now nodes) ⌝ }
     ensures { λ r. ⌜ IsNode r (nodeAt (now (nodes .entry)) row) ⌝ }
 {
+    let link = &nodes[2 * row..];
     let part = &nodes[(NODE_WIDTH - 1) * row..];
     NodeRow {
         name: part[row],
         len: part[row + 1],
         child: part[row + 3],
-        next: part[row + 4],
+        next: link[(NODE_WIDTH - 2) * row + 4],
         first: part[row + 5],
         count: part[row + 6],
     }

@@ -1,13 +1,14 @@
 // Looking up a path: `DeviceTree::find` and `Node::find`.
 ghost use mathlib.Core.Path.{_≡_};
-ghost use Prim.Native.Nat.{ℕ, _-_};
+ghost use Prim.Native.Nat.{ℕ, _*_, _≤_, _<_};
+ghost use lib.ListN.{length};
 ghost use Rattle.format.specs.Answer.{Outcome, numbers, itself};
-ghost use Rattle.format.specs.Bytes.{part};
+ghost use Rattle.format.specs.Format.{nodeWidth};
 ghost use Rattle.format.specs.Rows.{nodesIn};
-ghost use Rattle.format.specs.Lookup.{down, find-from};
+ghost use Rattle.format.specs.Lookup.{reach, find-from};
 ghost use Rattle.format.specs.Lookup as lookup;
 ghost use Rattle.lookup.specs.Answers.{foundNumbers, foundOutcome};
-ghost use Rattle.lookup.specs.Places.{Judged, Linked, Within, Kids, ChildGives};
+ghost use Rattle.lookup.specs.Places.{Linked, Kids, ChildGives};
 use crate::Found;
 use crate::judge::links_are_good;
 use crate::judge::node_at;
@@ -24,18 +25,10 @@ enum Child {
     Unusable,
 }
 
-// The first of the children, whose first is `first`, that is named as the path from at up to end.
-fn child_named(
-    s: &[u8],
-    nodes: &[u32],
-    count: usize,
-    first: u32,
-    path: &[u8],
-    at: usize,
-    end: usize,
-) -> Child
-    requires { ⌜ Linked (now nodes) count first × Within (now path) at end ⌝ }
-    ensures { λ r. ⌜ ((goal : Outcome ℕ) (low : ℕ) → Kids (now (s .entry)) (nodesIn count (now (nodes .entry))) goal (part (now (path .entry)) at (end - at)) low first
+// The first of the children, whose first is `first`, of that name.
+fn child_named(s: &[u8], nodes: &[u32], count: usize, first: u32, name: &[u8]) -> Child
+    requires { ⌜ Linked (now nodes) count first ⌝ }
+    ensures { λ r. ⌜ ((goal : Outcome ℕ) (low : ℕ) → Kids (now (s .entry)) (nodesIn count (now (nodes .entry))) goal (now (name .entry)) low first
         → ChildGives (nodesIn count (now (nodes .entry))) goal r) ⌝ }
 {
     let mut link = first;
@@ -48,25 +41,28 @@ fn child_named(
         if !row_is_good(node, link, count, s.len()) {
             return Child::Unusable;
         }
-        if same_part(s, node.name, node.len, path, at, end) {
+        if same_part(s, node.name, node.len, name) {
             break 'children Child::At(row, node.child);
         }
         link = node.next;
     }
 }
 
-// The path from a row that has been judged.
+// The path from a row below the count.
 fn walk(s: &[u8], nodes: &[u32], count: usize, from: usize, path: &[u8]) -> Found
-    requires { ⌜ Judged (now nodes) count from ⌝ }
-    ensures { λ r. ⌜ foundOutcome r ≡ down (now (s .entry)) (nodesIn count (now (nodes .entry))) from (now (path .entry)) ⌝ }
+    requires { ⌜ (from < count) × (nodeWidth * count ≤ length (now nodes)) ⌝ }
+    ensures { λ r. ⌜ foundOutcome r ≡ reach (now (s .entry)) (nodesIn count (now (nodes .entry))) from (now (path .entry)) ⌝ }
 {
     let own = node_at(nodes, from);
+    if !links_are_good(own, from, count) {
+        return Found::Unusable;
+    }
     let mut first = own.child;
     let mut row = from;
-    let mut at = 0;
-    while at < path.len() {
-        let end = name_end(path, at);
-        match child_named(s, nodes, count, first, path, at, end) {
+    let mut rest = path;
+    while 0 < rest.len() {
+        let end = name_end(rest);
+        match child_named(s, nodes, count, first, &rest[0..end]) {
             Child::At(child, link) => {
                 row = child;
                 first = link;
@@ -74,10 +70,10 @@ fn walk(s: &[u8], nodes: &[u32], count: usize, from: usize, path: &[u8]) -> Foun
             Child::Nothing => return Found::Nothing,
             Child::Unusable => return Found::Unusable,
         }
-        if path.len() <= end {
+        if rest.len() <= end {
             return Found::Row(row);
         }
-        at = end + 1;
+        rest = &rest[end + 1..];
     }
     Found::Row(row)
 }
@@ -90,9 +86,6 @@ pub fn find_from(b: &[u8], nodes: &[u32], count: usize, row: usize, path: &[u8])
         return Found::Unusable;
     }
     if count <= row {
-        return Found::Unusable;
-    }
-    if !links_are_good(node_at(nodes, row), row, count) {
         return Found::Unusable;
     }
     walk(b, nodes, count, row, path)
@@ -114,5 +107,5 @@ pub fn find(b: &[u8], nodes: &[u32], count: usize, path: &[u8]) -> Found
     if path[0] != b'/' {
         return Found::Nothing;
     }
-    find_from(b, nodes, count, 0, &path[1..])
+    walk(b, nodes, count, 0, &path[1..])
 }

@@ -39,7 +39,7 @@ fn first_named(b: &[u8], props: &[u32], from: usize, end: usize, name: &[u8]) ->
         if !lies_in(prop.value, prop.size, b.len()) {
             return Value::Unusable;
         }
-        if same_part(b, prop.name, prop.len, name, 0, name.len()) {
+        if same_part(b, prop.name, prop.len, name) {
             return Value::Part {
                 start: prop.value as usize,
                 len: prop.size as usize,

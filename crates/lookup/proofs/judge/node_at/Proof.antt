@@ -14,7 +14,7 @@ use Rattle.lookup.proofs.judge.node_at.Tie as tie
 returns : tie.Need-returns
 unfolding nodeAt nodeWidth part
 returns c =
-    let st = c .before .before .before .before .before .before .before in
+    let st = c .before .before .before .before .before .before .before .before in
     let t = now (st .args .nodes) in
     let r = st .args .row in
     let h = st .pre in
@@ -23,7 +23,7 @@ returns c =
       name = part-at t (6 * r) n r _ (omega (arith, h)) (omega arith);
       len = part-at t (6 * r) n (r + 1) _ (omega (arith, h)) (omega arith);
       child = part-at t (6 * r) n (r + 3) _ (omega (arith, h)) (omega arith);
-      next = part-at t (6 * r) n (r + 4) _ (omega (arith, h)) (omega arith);
+      next = part-at t (2 * r) (length t - 2 * r) (5 * r + 4) _ (omega (arith, h)) (omega arith);
       first = part-at t (6 * r) n (r + 5) _ (omega (arith, h)) (omega arith);
       count = part-at t (6 * r) n (r + 6) _ (omega (arith, h)) (omega arith);
     }
@@ -33,6 +33,13 @@ unfolding nodeWidth
 node-at-spec =
     tie.close
     (tie.spec
+    (λ c. search needs)
+    (λ c. search needs)
+    (λ c. search needs)
+    (λ c. search needs)
+    (λ c. search needs)
+    (λ c. search needs)
+    (λ c. search needs)
     (λ c. search needs)
     (λ c. search needs)
     (λ c. search needs)

@@ -3,15 +3,16 @@ use denote.Ref.{now}
 use borrow.Author.Needs.{needs}
 use native.Mathlib.Omega.{arith}
 use Prim.Native.Nat.{_-_, _≤_}
+use lib.ListN.{length}
 use Rattle.lookup.proofs.NameLaws.{Alike, alike-same, alike-more, byte-differs}
 use Rattle.lookup.proofs.names.same_few.Statement.{statement}
 use Rattle.lookup.proofs.names.same_few.Tie as tie
 
 abbrev Inv-loop : tie.InvT-loop
-Inv-loop s a t b len i₀ i = (i ≤ len) × Alike s a t b len i
+Inv-loop s t i₀ i = (i ≤ length s) × Alike s t i
 
 abbrev μ-loop : tie.MeasureT-loop
-μ-loop s a t b len i₀ i = i
+μ-loop s t i₀ i = i
 
 loop-holds : tie.Need-loop-holds Inv-loop μ-loop
 loop-holds c = (search needs, λ k h l. absurd (omega arith))
@@ -20,21 +21,19 @@ returns : tie.Need-returns Inv-loop μ-loop
 returns c =
     let lo = c .before .before .before .before in
     let a = lo .before .args in
-    let pre = lo .before .pre in
-    byte-differs (now (a .s)) (a .a) (now (a .t)) (a .b) (a .len) (pre .0) (pre .1) (lo .loop .i - 1) (omega (arith, lo .loop .inv .0, c .before .before .before .loop-test .taken)) (c .if1 .taken)
+    byte-differs (now (a .s)) (now (a .t)) (lo .loop .i - 1) (c .if1 .taken)
 
 loop-again : tie.Need-loop-again Inv-loop μ-loop
 loop-again c =
     let lo = c .before .before .before .before in
     let a = lo .before .args in
-    (omega (arith, lo .loop .inv .0), alike-more (now (a .s)) (a .a) (now (a .t)) (a .b) (a .len) (lo .loop .i) (c .before .before .before .loop-test .taken) (lo .loop .inv .1) (c .if1 .left))
+    (omega (arith, lo .loop .inv .0), alike-more (now (a .s)) (now (a .t)) (lo .loop .i) (lo .loop .inv .1) (c .if1 .left))
 
 returns-2 : tie.Need-returns-2 Inv-loop μ-loop
 returns-2 c =
     let lo = c .before in
     let a = lo .before .args in
-    let pre = lo .before .pre in
-    alike-same (now (a .s)) (a .a) (now (a .t)) (a .b) (a .len) (pre .0) (pre .1) (λ k h l. lo .loop .inv .1 k (omega (arith, c .loop-test .left)) l)
+    alike-same (now (a .s)) (now (a .t)) (lo .before .pre) (λ k h l. lo .loop .inv .1 k (omega (arith, c .loop-test .left)) l)
 
 pub same-few-spec : {M : Type 1} → statement M
 same-few-spec =
@@ -43,8 +42,6 @@ same-few-spec =
     Inv-loop
     μ-loop
     loop-holds
-    (λ c. search needs)
-    (λ c. search needs)
     (λ c. search needs)
     (λ c. search needs)
     (λ c. search needs)

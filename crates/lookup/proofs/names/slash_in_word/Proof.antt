@@ -6,11 +6,11 @@ use Rattle.lookup.proofs.names.slash_in_word.Statement.{statement}
 use Rattle.lookup.proofs.names.slash_in_word.Tie as tie
 
 returns : tie.Need-returns
-returns c at e =
+returns c e =
     let three = neither _ _ e in
     let two = neither _ _ (three .0) in
     let one = neither _ _ (two .0) in
-    scan-word _ at _ (c .before .before .before .before .pre) (eqb-false _ _ (one .0)) (eqb-false _ _ (one .1)) (eqb-false _ _ (two .1)) (eqb-false _ _ (three .1))
+    scan-word _ _ (c .before .before .before .before .pre) (eqb-false _ _ (one .0)) (eqb-false _ _ (one .1)) (eqb-false _ _ (two .1)) (eqb-false _ _ (three .1))
 
 pub slash-in-word-spec : {M : Type 1} → statement M
 slash-in-word-spec =

@@ -3,10 +3,9 @@
 use borrow.Author.Tests.{not-true, not-false}
 use native.Mathlib.Omega.{arith}
 use mathlib.Core.Path.{_∙_, sym, refl}
-use Prim.Native.Nat.{ℕ, _-_}
+use Prim.Native.Nat.{ℕ}
 use denote.Ref.{now}
 use Rattle.format.specs.Answer.{Outcome}
-use Rattle.format.specs.Bytes.{part}
 use Rattle.format.specs.Format.{NONE, nodeWidth}
 use Rattle.format.specs.Rows.{nodesIn}
 use Rattle.lookup.specs.Places.{Linked, Kids, ChildGives}
@@ -16,16 +15,16 @@ use Rattle.lookup.proofs.path.child_named.Statement.{statement}
 use Rattle.lookup.proofs.path.child_named.Tie as tie
 
 abbrev Inv-children : tie.InvT-children
-Inv-children s nodes count first path at end link₀ link =
+Inv-children s nodes count first name link₀ link =
     Linked nodes count link
-    × ((goal : Outcome ℕ) (low : ℕ) → Kids s (nodesIn count nodes) goal (part path at (end - at)) low first
-    → (l : ℕ) × Kids s (nodesIn count nodes) goal (part path at (end - at)) l link)
+    × ((goal : Outcome ℕ) (low : ℕ) → Kids s (nodesIn count nodes) goal name low first
+    → (l : ℕ) × Kids s (nodesIn count nodes) goal name l link)
 
 abbrev μ-children : tie.MeasureT-children
-μ-children s nodes count first path at end link₀ link = ahead count link
+μ-children s nodes count first name link₀ link = ahead count link
 
 children-holds : tie.Need-children-holds Inv-children μ-children
-children-holds c = (c .before .before .before .pre .0, λ goal low x. (low, x))
+children-holds c = (c .before .before .before .pre, λ goal low x. (low, x))
 
 returns : tie.Need-returns Inv-children μ-children
 unfolding ChildGives NONE
@@ -62,7 +61,7 @@ same-part-requires c κs =
     let st = kids .before .before .before .before in
     let is = node-read _ _ _ _ (rw nodes-length at (leads _ _ _ (kids .children .inv .0 .good) (some .if1 .left) .1)) (read .node-at .ensures) in
     let good = sym (c .before .row-is-good .ensures (now (st .args .s)) _ refl (nodes-length _ _) is) ∙ not-false _ (c .if2 .left) in
-    record { one = judged-inside _ _ _ _ is good; order = st .pre .1 .order; two = st .pre .1 .inside }
+    judged-inside _ _ _ _ is good
 
 children-less : tie.Need-children-less Inv-children μ-children
 unfolding NONE

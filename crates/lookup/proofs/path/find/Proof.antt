@@ -1,13 +1,14 @@
 -- `find` meets its contract, by its five returns. Assumes nothing.
 use native.Mathlib.Omega.{arith}
-use mathlib.Core.Path.{ap, _∙_}
+use mathlib.Core.Path.{_∙_}
 use borrow.Author.Needs.{needs}
 use denote.Ref.{now}
-use Rattle.format.specs.Answer.{numbers, itself}
+use Rattle.format.specs.Bytes.{part}
+use Rattle.format.specs.Format.{nodeWidth}
 use Rattle.lookup.specs.Answers.{foundOutcome}
 use Rattle.lookup.specs.declared.Found.the-variants.{Nothing, Unusable}
 use Rattle.lookup.proofs.Outcomes.{found-promise}
-use Rattle.lookup.proofs.PathLaws.{too-many, not-below, can-be-used, tree-unusable, tree-empty, tree-other, tree-from}
+use Rattle.lookup.proofs.PathLaws.{too-many, not-below, can-be-used, tree-unusable, tree-empty, tree-other, tree-reach}
 use Rattle.lookup.proofs.path.find.Statement.{statement}
 use Rattle.lookup.proofs.path.find.Tie as tie
 
@@ -42,15 +43,23 @@ returns-4 c =
     found-promise Nothing
     (tree-other (now (a .b)) (now (a .nodes)) (a .count) (now (a .path)) (can-be-used _ _ 0 (fits .if1 .left) (omega (arith, some .if2 .left))) (omega (arith, long .if3 .left)) (c .if4 .taken))
 
+walk-requires : tie.Need-walk-requires
+unfolding nodeWidth
+walk-requires c κs =
+    let some = c .before .before .before .before in
+    (omega (arith, some .if2 .left), omega (arith, some .before .if1 .left))
+
 returns-5 : tie.Need-returns-5
+unfolding part
 returns-5 c =
     let slash = c .before .before in
     let long = slash .before .before in
     let some = long .before in
     let fits = some .before in
     let a = fits .before .before .before .before .args in
-    c .find-from .ensures
-    ∙ ap (numbers itself) (tree-from (now (a .b)) (now (a .nodes)) (a .count) (now (a .path)) (can-be-used _ _ 0 (fits .if1 .left) (omega (arith, some .if2 .left))) (omega (arith, long .if3 .left)) (slash .if4 .left))
+    found-promise _
+    (c .walk .ensures
+    ∙ tree-reach (now (a .b)) (now (a .nodes)) (a .count) (now (a .path)) (can-be-used _ _ 0 (fits .if1 .left) (omega (arith, some .if2 .left))) (omega (arith, long .if3 .left)) (slash .if4 .left))
 
 pub find-spec : {M : Type 1} → statement M
 find-spec =
@@ -64,5 +73,5 @@ find-spec =
     (λ c. search needs)
     (λ c. search needs)
     (λ c. search needs)
-    (λ c κs. search needs)
+    walk-requires
     returns-5)

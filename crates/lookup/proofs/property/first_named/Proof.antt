@@ -45,8 +45,7 @@ returns-2 c n few =
 same-part-requires : tie.Need-same-part-requires Inv-loop μ-loop
 same-part-requires c κs =
     let named = c .before .before in
-    let one = leb-true _ _ (sym (named .before .lies-in .ensures) ∙ not-false _ (named .if1 .left)) in
-    record { one = one; order = omega arith; two = omega arith }
+    leb-true _ _ (sym (named .before .lies-in .ensures) ∙ not-false _ (named .if1 .left))
 
 returns-3 : tie.Need-returns-3 Inv-loop μ-loop
 unfolding valueOutcome
