@@ -7,14 +7,14 @@ use native.Mathlib.Nat.{add-zero}
 use native.Mathlib.Numerals.{add-one}
 use mathlib.Core.List.{List, [], _∷_, _++_, append-assoc, append-nil}
 use mathlib.Core.Bool.{Bool, true, false, _||_, true≢false}
-use lib.ListN.{length, drop, getD, length-drop, drop-of-length-le}
-use lib.Seq.{take-suc, take-length, drop-cons, ext-getD}
+use lib.ListN.{length, drop, getD, drop-of-length-le}
+use lib.Seq.{take-suc, drop-cons, ext-getD}
 use lib.Dec.{eqb}
 use borrow.Author.Tests.{eqb-true, eqb-false, eq-eqb, ne-eqb}
 use Rattle.format.specs.Bytes.{part, AreBytes}
 use Rattle.format.specs.Find.{SLASH, head, rest, same}
 use Rattle.format.proofs.Tools.{split, tested, if-yes, if-no}
-use Rattle.format.proofs.Bytes.{part-length}
+use Rattle.format.proofs.Bytes.{part-length, tail-whole}
 use Rattle.format.proofs.Names.{same-is}
 use Rattle.lookup.specs.Places.{NameEnd, Scan, lowest}
 
@@ -61,12 +61,7 @@ module _ (s t : List ℕ) where
 
   fours : (p : ℕ) → AreBytes s → AreBytes t → lowest s p ≡ lowest t p → Fours p
   unfolding AreBytes lowest
-  fours p bs bt e = record {
-    first = omega (arith, bs p, bs (p + 1), bs (p + 2), bs (p + 3), bt p, bt (p + 1), bt (p + 2), bt (p + 3));
-    second = omega (arith, bs p, bs (p + 1), bs (p + 2), bs (p + 3), bt p, bt (p + 1), bt (p + 2), bt (p + 3));
-    third = omega (arith, bs p, bs (p + 1), bs (p + 2), bs (p + 3), bt p, bt (p + 1), bt (p + 2), bt (p + 3));
-    fourth = omega (arith, bs p, bs (p + 1), bs (p + 2), bs (p + 3), bt p, bt (p + 1), bt (p + 2), bt (p + 3));
-  }
+  fours p bs bt e = omega (arith, bs p, bs (p + 1), bs (p + 2), bs (p + 3), bt p, bt (p + 1), bt (p + 2), bt (p + 3))
 
   four-alike : (p : ℕ) → Fours p → (j : ℕ) → j < 4 → getD s (p + j) 0 ≡ getD t (p + j) 0
   four-alike p each zero h = rw (add-zero p) (each .first)
@@ -143,12 +138,9 @@ scan-end p i x h =
 
 -- ---- parts of a path, as they are lent
 
-pub tail-lent : (p : List ℕ) (k : ℕ) → part p k (length p - k) ≡ drop k p
-unfolding part
-tail-lent p k = rw (← length-drop k p) (take-length (drop k p))
-
 pub name-lent : (p : List ℕ) (r : ℕ) → NameEnd p r → head p ≡ part p 0 (r - 0)
 name-lent p r x = let e : r - 0 ≡ r = omega arith in x .first ∙ rw e
 
 pub rest-lent : (p : List ℕ) (r : ℕ) → NameEnd p r → rest p ≡ part p (r + 1) (length p - (r + 1))
-rest-lent p r x = x .later ∙ sym (tail-lent p (r + 1))
+unfolding part
+rest-lent p r x = x .later ∙ sym (tail-whole p (r + 1))

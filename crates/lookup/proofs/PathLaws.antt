@@ -16,6 +16,7 @@ use Rattle.format.specs.Load.{capacity}
 use Rattle.format.specs.Find.{head, rest, same, SLASH, afterSlash}
 use Rattle.format.specs.Lookup.{linkGood, linksGood, nameInside, nameAt, across, down, reach, usable, find-from, find}
 use Rattle.format.proofs.Tools.{both, tested, if-yes, if-no}
+use Rattle.format.proofs.Bytes.{tail-whole}
 use Rattle.format.proofs.Answer.{never, ok-same, then-ok, then-refused, check-ok, check-no}
 use Rattle.format.proofs.Lookup.{across-other, across-here, across-below, across-none, across-bad}
 use Rattle.format.proofs.Reached.{There, follows, led, links-of, links-good, Enough, next-enough, turns-enough}
@@ -23,7 +24,6 @@ use Rattle.lookup.specs.Places.{IsNode, childFrom, Kids, ChildGives}
 use Rattle.lookup.specs.declared.judge.NodeRow.{NodeRow}
 use Rattle.lookup.specs.declared.path.Child.{Child}
 use Rattle.lookup.specs.declared.path.Child.the-variants as child
-use Rattle.lookup.proofs.NameLaws.{tail-lent}
 use Rattle.lookup.proofs.RowLaws.{leads}
 
 -- ---- one turn of the search for a child
@@ -292,5 +292,5 @@ module _ (b t : List ℕ) (n : ℕ) (path : List ℕ) where
 
       -- after the slash, a path from row 0
       pub tree-reach : getD path 0 0 ≡ 0x2f → reach b (nodesIn n t) 0 (part path 1 (length path - 1)) ≡ find b t n path
-      unfolding find
-      tree-reach d = rw (tail-lent path 1) (sym (then-ok _ _ (check-ok _ u) (then-ok _ _ (slash-first path l d) refl)))
+      unfolding find part
+      tree-reach d = rw (tail-whole path 1) (sym (then-ok _ _ (check-ok _ u) (then-ok _ _ (slash-first path l d) refl)))

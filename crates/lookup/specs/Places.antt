@@ -57,7 +57,7 @@ pub record IsProperty (r : PropRow) (x : rows.PropertyRow) : Type 0 where
 unfoldable pub lowest : List ℕ → ℕ → ℕ
 lowest s p = ((getD s (p + 3) 0 * 256 + getD s (p + 2) 0) * 256 + getD s (p + 1) 0) * 256 + getD s p 0
 
--- the first i bytes of a path have no slash
+-- the first i bytes of a path are of its first name
 pub record Scan (p : List ℕ) (i : ℕ) : Type 0 where
   pub inside : i ≤ length p
   pub first : head p ≡ part p 0 i ++ head (drop i p)

@@ -6,10 +6,11 @@ use mathlib.Core.Path.{_≡_, refl, ap, _∙_, sym}
 use mathlib.Core.List.{List, [], _∷_, _++_, append-assoc, append-nil}
 use mathlib.Core.Option.{Option, none, some}
 use borrow.Author.Tests.{lt-ltb, le-ltb, le-leb, lt-leb, eq-eqb, ne-eqb}
-use lib.ListN.{length, take, drop, getD, set, length-drop, drop-of-length-le}
-use lib.Seq.{drop-cons, take-all, take-suc, take-suc-set}
+use lib.ListN.{length, take, drop, getD, set, drop-of-length-le}
+use lib.Seq.{drop-cons, take-suc, take-suc-set}
 use Rattle.format.specs.Answer.{orZero}
 use Rattle.format.specs.Read.{read-be-u32}
+use Rattle.format.proofs.Bytes.{tail-whole}
 use Rattle.queries.specs.Fields.{digitOf, firstOf, restOf, numberFrom, numberOf, before, pairsOf, bytesOf, wordsIn, gathered, gatheredOf, wordsOf}
 use Rattle.queries.specs.declared.fields.Number.the-variants as number
 
@@ -220,9 +221,6 @@ words-some room s b p = rw p
 
 pub drop-past : (s : List ℕ) (i : ℕ) → length s ≤ i → drop (i + 1) s ≡ []
 drop-past s i h = let g : length s ≤ i + 1 = omega arith in drop-of-length-le s g
-
-pub tail-whole : (s : List ℕ) (a : ℕ) → take (length s - a) (drop a s) ≡ drop a s
-tail-whole s a = take-all (length s - a) (drop a s) (simp length-drop (omega arith))
 
 pub tail-none : (s : List ℕ) (a : ℕ) → a ≡ length s → take (length s - a) (drop a s) ≡ drop (a + 1) s
 tail-none s a e =

@@ -15,7 +15,7 @@ use Rattle.queries.specs.declared.fields.Count.{Count}
 use Rattle.queries.specs.declared.fields.Count.the-variants as count
 use Rattle.queries.specs.declared.letters.Bounded.{Bounded}
 use Rattle.queries.specs.declared.letters.Bounded.the-variants as bounded
-use Rattle.queries.proofs.FieldLaws.{tail-whole}
+use Rattle.format.proofs.Bytes.{tail-whole}
 
 -- ---- bytes that were put
 

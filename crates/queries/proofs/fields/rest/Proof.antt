@@ -2,7 +2,8 @@
 use Prim.Native.Nat.{_+_}
 use native.Mathlib.Omega.{arith}
 use mathlib.Core.Path.{_∙_, sym}
-use Rattle.queries.proofs.FieldLaws.{tail-whole, tail-none}
+use Rattle.format.proofs.Bytes.{tail-whole}
+use Rattle.queries.proofs.FieldLaws.{tail-none}
 use borrow.Author.Needs.{needs}
 use Rattle.queries.proofs.fields.rest.Statement.{statement}
 use Rattle.queries.proofs.fields.rest.Tie as tie
