@@ -18,7 +18,8 @@
  *   What lies behind the rows keeps its numbers. A load that is refused leaves all three tables as they were.
  * - Nothing is allocated, and nothing is kept from one call to the next: the library has no writable data of its own. Calls may run
  *   at the same time in several threads if none writes what another one uses.
- * - It calls nothing outside itself. Its recursion follows the nodes, which nest 16 deep at most.
+ * - It calls nothing outside itself. Its recursion follows the nodes, which nest DANGRISUK_DEPTH deep at most: a load takes less than
+ *   16 KiB of stack.
  *
  * What the caller keeps:
  *
@@ -41,6 +42,9 @@ extern "C" {
 /* The room that every answer fits in. */
 #define DANGRISUK_ANSWER 6
 
+/* How deep the nodes of a blob may nest; the root is at depth 1. */
+#define DANGRISUK_DEPTH 64
+
 /* The first number of an answer. */
 enum dangrisuk_number {
     DANGRISUK_OK = 0,                    /* loaded, read or found */
@@ -50,7 +54,7 @@ enum dangrisuk_number {
     DANGRISUK_PARSE_ERROR = 4,           /* a word is not the one that is due; carries its position */
     DANGRISUK_UTF8_ERROR = 5,            /* a name or a text is not UTF-8 */
     DANGRISUK_VERSION_NOT_SUPPORTED = 6, /* the version is not 17 */
-    DANGRISUK_TOO_DEEP = 7,              /* a node at depth 17; carries its position */
+    DANGRISUK_TOO_DEEP = 7,              /* a node deeper than DANGRISUK_DEPTH; carries its position */
     DANGRISUK_RESERVATION_ROOM = 8,      /* more reservation rows than room; carries the rows needed */
     DANGRISUK_NODE_ROOM = 9,             /* more node rows than room; carries the rows needed */
     DANGRISUK_PROPERTY_ROOM = 10,        /* more property rows than room; carries the rows needed */
@@ -135,7 +139,7 @@ enum dangrisuk_property {
  *   5   a property's name is not UTF-8, judged when it is read; or a node's name is not, judged when the node has closed.
  *   6   the word at 20 is not 17.
  *   7, position
- *       the word there would open a node at depth 17; the root is at depth 1.
+ *       the word there would open a node at depth DANGRISUK_DEPTH + 1.
  *   8, rows needed
  *       more reservation rows than reserved has room for; the last entry, of size 0, is a row too.
  *   9, rows needed

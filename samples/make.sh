@@ -13,9 +13,10 @@ cp "$made/enclosure.dtb" "$made/damaged-shifted.dtb"
 printf '\017' | dd of="$made/damaged-shifted.dtb" bs=1 seek=4191 conv=notrunc 2>/dev/null
 # The last 448 bytes lost.
 head -c 6000 "$made/enclosure.dtb" > "$made/damaged-short.dtb"
+dtc -I dts -O dtb -o "$made/daisy-chain.dtb" daisy-chain.dts
 
 differ=0
-for blob in enclosure damaged-shifted damaged-short; do
+for blob in enclosure damaged-shifted damaged-short daisy-chain; do
     if [ "${1:-}" = --write ]; then
         cp "$made/$blob.dtb" "$blob.dtb"
     elif cmp "$made/$blob.dtb" "$blob.dtb"; then

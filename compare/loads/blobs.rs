@@ -1,6 +1,7 @@
 // Blobs to load: trees laid out in usual and unusual ways, and changed copies of them.
 
 use crate::random::Random;
+use crate::scope::DEPTH;
 
 #[derive(Clone, Default)]
 pub struct Node {
@@ -20,6 +21,11 @@ pub fn node(name: &[u8], props: &[(&[u8], &[u8])], children: &[Node]) -> Node {
 // Nodes one inside another; the innermost has what is given.
 pub fn chain(depth: usize, inner: Node) -> Node {
     (1..depth).fold(inner, |below, _| node(b"n", &[], &[below]))
+}
+
+// The same, each behind a node that holds nothing: deep only at its end.
+pub fn comb(depth: usize, inner: Node) -> Node {
+    (1..depth).fold(inner, |below, _| node(b"n", &[], &[node(b"a", &[], &[]), below]))
 }
 
 // Where the blocks stand and what fills the gaps.
@@ -229,7 +235,7 @@ pub fn random_blob(r: &mut Random) -> Vec<u8> {
     let depth = if r.once_in(8) { 20 } else { 6 };
     let bad = if r.once_in(6) { 8 } else { 2000 };
     let tree = random_tree(r, nodes, depth, bad);
-    let tree = if r.once_in(12) { chain(12 + r.below(6), tree) } else { tree };
+    let tree = if r.once_in(12) { chain(DEPTH - 4 + r.below(6), tree) } else { tree };
     let (reservations, layout) = (random_reservations(r), random_layout(r));
     let mut b = build(&tree, &reservations, &layout);
     // Blocks that overlap, and names and reservations in odd places.

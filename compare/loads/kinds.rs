@@ -55,8 +55,8 @@ pub fn varied() -> Vec<Vec<u8>> {
         build(&text, &[LAST], &usual),
         build(&tokens, &[LAST], &usual),
         build(&mixed, &[LAST], &usual),
-        build(&chain(16, leaf(b"in")), &[LAST], &usual),
-        build(&chain(17, leaf(b"in")), &[LAST], &usual),
+        build(&chain(DEPTH, leaf(b"in")), &[LAST], &usual),
+        build(&chain(DEPTH + 1, leaf(b"in")), &[LAST], &usual),
         build(&mixed, &[LAST], &order([1, 2, 0])),
         build(&values, &three, &order([2, 1, 0])),
         build(&twins, &[LAST], &order([0, 2, 1])),
@@ -189,29 +189,32 @@ pub fn damaged_copies(c: &mut Comparison) {
     }
 }
 
-// Chains to depths of 15 to 18: whole, with something before, inside or after them, at each alignment, each word changed.
+// Trees so deep: a chain with a good name, a bad one, or a value inside; one with nodes on both sides; one that is deep at its end.
+// Two with a bad name outside the deepest node: a node's, which is judged after what it holds, and a property's, before.
+pub fn nested(depth: usize) -> Vec<Node> {
+    let leaf = |name: &[u8]| node(name, &[], &[]);
+    let inner = [leaf(b"in"), node(b"\xff", &[(b"p", b"1")], &[]), node(b"", &[(b"p", b"12345")], &[])];
+    let beside = [leaf(b"first"), chain(depth - 1, leaf(b"q")), leaf(b"last")];
+    let bad_node = chain(2, node(b"\xff", &[], &[chain(depth - 2, leaf(b"in"))]));
+    let bad_property = chain(depth - 1, node(b"n", &[(b"\xff", b"")], &[leaf(b"in")]));
+    let mut all = inner.map(|inner| chain(depth, inner)).to_vec();
+    all.extend([node(b"", &[(b"p", b"x")], &beside), comb(depth, leaf(b"in")), bad_node, bad_property]);
+    all
+}
+
+// From two levels below the limit to two above it: at each alignment, each word changed, cut anywhere.
 pub fn depths(c: &mut Comparison) {
-    for depth in 15..19 {
-        for inner in [node(b"in", &[], &[]), node(b"\xff", &[(b"p", b"1")], &[]), node(b"", &[(b"p", b"12345")], &[])] {
-            let down = chain(depth, inner);
-            let beside = node(
-                b"",
-                &[(b"p", b"x")],
-                &[node(b"first", &[], &[]), chain(depth - 1, node(b"q", &[], &[])), node(b"last", &[], &[])],
-            );
-            for tree in [down, beside] {
-                for gap in 0..4 {
-                    let good = build(&tree, &[LAST], &Layout { gaps: [0, gap, 0, 0], ..Layout::USUAL });
-                    c.blob(good.clone());
-                    for pos in (8..good.len() - 3).step_by(4) {
-                        [0, 1, 2, 3, 4, 0xff000000].iter().for_each(|word| c.blob(with_word(&good, pos, *word)));
-                    }
-                    for len in 0..good.len() {
-                        let mut b = good[..len].to_vec();
-                        fix_size(&mut b);
-                        c.blob(b);
-                    }
-                }
+    for tree in (DEPTH - 2..=DEPTH + 2).flat_map(nested) {
+        for gap in 0..4 {
+            let good = build(&tree, &[LAST], &Layout { gaps: [0, gap, 0, 0], ..Layout::USUAL });
+            c.blob(good.clone());
+            for pos in (8..good.len() - 3).step_by(4) {
+                [0, 1, 2, 3, 4, 0xff000000].iter().for_each(|word| c.blob(with_word(&good, pos, *word)));
+            }
+            for len in 0..good.len() {
+                let mut b = good[..len].to_vec();
+                fix_size(&mut b);
+                c.blob(b);
             }
         }
     }

@@ -1,7 +1,9 @@
 // Document 01's reading of a blob, written from its words: the answer's numbers and the rows of the three tables.
 
 pub const NONE: u64 = 4294967295;
-pub const DEPTH: usize = 16;
+
+// How deep nodes may nest; the root is at depth 1.
+pub const DEPTH: usize = 64;
 
 // How many rows each table has room for.
 #[derive(Clone, Copy, PartialEq)]

@@ -3,6 +3,7 @@ use crate::blobs::*;
 use crate::kinds::*;
 use crate::lines::{hex, FRAME};
 use crate::random::Random;
+use crate::scope::DEPTH;
 
 // A tree whose last block ends the blob, with so many bytes after it.
 fn ending(tree: &Node, order: [usize; 3], after: usize) -> Vec<u8> {
@@ -32,7 +33,25 @@ fn neighbours() -> Vec<Vec<u8>> {
     all.push(bad_name.clone());
     all.push(with_word(&bad_name, 88, 4));
     all.push(with_word(&s, 44, 4096));
-    all.extend((15..19).map(|depth| build(&chain(depth, node(b"in", &[], &[])), &[LAST], &Layout::USUAL)));
+    all.extend([DEPTH, DEPTH + 1].map(|depth| build(&chain(depth, node(b"in", &[], &[])), &[LAST], &Layout::USUAL)));
+    all
+}
+
+// Nodes one inside another: the sample of 23, and trees around the limit. Then the token that opens one too deep, its name not
+// UTF-8 or without a zero byte, and the blob cut from that token on: 7 comes before the name is read.
+fn depths() -> Vec<Vec<u8>> {
+    let mut all = vec![include_bytes!("../../samples/daisy-chain.dtb").to_vec()];
+    let trees = (DEPTH - 2..=DEPTH + 2).flat_map(nested);
+    all.extend(trees.map(|tree| build(&tree, &[LAST], &Layout::USUAL)));
+    let token = 56 + 8 * DEPTH;
+    for name in [&b"in"[..], b"\xff"] {
+        let b = build(&chain(DEPTH + 1, node(name, &[], &[])), &[LAST], &Layout::USUAL);
+        for len in token..token + 9 {
+            let mut cut = b[..len].to_vec();
+            fix_size(&mut cut);
+            all.push(cut);
+        }
+    }
     all
 }
 
@@ -132,7 +151,7 @@ fn lines() -> Vec<Vec<u8>> {
 
 // The last line has no line end.
 pub fn text() -> Vec<u8> {
-    let blobs = [neighbours(), porters(), limits(), changed()].concat();
+    let blobs = [neighbours(), depths(), porters(), limits(), changed()].concat();
     let mut all: Vec<Vec<u8>> = blobs.iter().map(|b| hex(b)).collect();
     all.extend(lines());
     all.push(hex(&frame_s()));

@@ -1,5 +1,7 @@
 # Blobs for T lines: trees laid out, document 01's frame S, what is close to it, and what is refused for depth and room.
-from queries.lines import ROOM, TOP
+from pathlib import Path
+
+from queries.lines import DEPTH, ROOM
 
 
 def word(n):
@@ -19,6 +21,13 @@ def node(name, props=(), children=()):
 def chain(depth, inner):
     for _ in range(depth - 1):
         inner = node(b"n", [], [inner])
+    return inner
+
+
+# The same, each behind a node that holds nothing: deep only at its end.
+def comb(depth, inner):
+    for _ in range(depth - 1):
+        inner = node(b"n", [], [leaf(b"a"), inner])
     return inner
 
 
@@ -63,6 +72,11 @@ def frame_s():
     return b"".join(map(word, words)) + b"u\0"
 
 
+# The sample whose nodes nest 23 deep.
+def daisy_chain():
+    return (Path(__file__).parents[2] / "samples/daisy-chain.dtb").read_bytes()
+
+
 def leaf(name):
     return node(name)
 
@@ -102,10 +116,20 @@ def neighbours():
 
 # Loads that are refused for depth and for room, and those that just are not.
 def limits():
-    for depth in (16, 17, 18, 40):
+    yield daisy_chain()
+    for depth in (*range(DEPTH - 2, DEPTH + 3), 2 * DEPTH):
         yield blob(chain(depth, leaf(b"in")))
-    yield blob(chain(17, leaf(b"\xff")))
-    yield blob(node(b"", [], [chain(15, leaf(b"a")), chain(16, leaf(b"b")), leaf(b"\xff")]))
+        yield blob(comb(depth, leaf(b"in")))
+    # A bad name at the limit, one that would be past it, and those around a node too deep: a node's comes after it, a property's before.
+    yield blob(chain(DEPTH, leaf(b"\xff")))
+    yield blob(chain(DEPTH + 1, leaf(b"\xff")))
+    yield blob(chain(2, node(b"\xff", [], [chain(DEPTH - 1, leaf(b"in"))])))
+    yield blob(chain(DEPTH, node(b"n", [(b"\xff", b"")], [leaf(b"in")])))
+    # A branch that is too deep before one with a bad name.
+    yield blob(node(b"", [], [chain(DEPTH - 1, leaf(b"a")), chain(DEPTH, leaf(b"b")), leaf(b"\xff")]))
+    # The token that opens one too deep ends the blob, and is not whole.
+    for size in (60 + 8 * DEPTH, 59 + 8 * DEPTH):
+        yield with_word(blob(chain(DEPTH + 1, leaf(b"in")))[:size], 4, size)
     for n in (64, 65, 66):
         yield blob(leaf(b""), [(k, 1) for k in range(n - 1)] + [(0, 0)])
     for n in (512, 513, 514):

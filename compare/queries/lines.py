@@ -7,6 +7,9 @@ ROOM = 8192
 NAME = 1024
 TABLE = 512
 
+# How deep nodes may nest; the root is at depth 1.
+DEPTH = 64
+
 
 def text(data):
     return bytes(data).hex() if data else "-"

@@ -1,8 +1,8 @@
 # T lines for the lookups: document 01's paths and properties, and trees in which a wrong lookup answers something else.
 from itertools import product
 
-from queries.blobs import blob, chain, frame_s, leaf, node, small_trees, word
-from queries.lines import NAME, text
+from queries.blobs import blob, chain, comb, daisy_chain, frame_s, leaf, node, small_trees, word
+from queries.lines import DEPTH, NAME, text
 
 
 def line(data, path, name):
@@ -138,7 +138,7 @@ def long_texts():
     yield line(blob(node(b"", [], [deep])), b"/" * NAME, b"/" * NAME)
 
 
-# The last of many nodes and of many properties, and the depths.
+# The last of many nodes and of many properties.
 def crowds():
     names = [b"%03d" % k for k in range(511)]
     tree = node(b"", [], [leaf(name) for name in names[:-1]] + [node(names[-1], [(b"p", b"last")])])
@@ -147,17 +147,26 @@ def crowds():
     props = [(bytes([97 + k // 26, 97 + k % 26]), b"" if k < 499 else b"last\0") for k in range(500)]
     for name in (props[0][0], props[-1][0], b"zz"):
         yield line(blob(node(b"", props)), b"/", name)
-    down = blob(chain(16, node(b"in", [(b"p", b"here\0")])))
-    for depth in range(15):
-        yield line(down, b"/n" * depth or b"/", b"p")
-        yield line(down, b"/n" * depth + b"/in", b"p")
+
+
+# Nodes as deep as may be, and the sample's deepest.
+def depths():
+    inner = node(b"in", [(b"p", b"here\0")])
+    for tree in (chain(DEPTH, inner), comb(DEPTH, inner)):
+        for depth in (0, 1, 22, DEPTH - 3, DEPTH - 2, DEPTH - 1):
+            yield line(blob(tree), b"/n" * depth or b"/", b"p")
+            yield line(blob(tree), b"/n" * depth + b"/in", b"p")
+    expanders = [b"/expander@%x" % k for k in range(1, 11)]
+    last = b"/sas@8000" + b"/port@24".join(expanders)
+    for path, name in ((b"", b"sas-address"), (b"/bay@1/sensor@49", b"unit"), (b"/bay@1/sensor@49", b"critical"), (b"/port@24", b"reg")):
+        yield line(daisy_chain(), last + path, name)
 
 
 def lines(samples):
     for tree in small_trees():
         yield from everywhere(tree)
         yield from everywhere(tree, order="tsr", boot=1)
-    for part in (in_s, twins, prefixes, empties, slashes, characters, long_texts, crowds):
+    for part in (in_s, twins, prefixes, empties, slashes, characters, long_texts, crowds, depths):
         yield from part()
     yield from valued(samples)
 

@@ -13,6 +13,9 @@ mod counts;
 #[allow(dead_code)]
 #[path = "../loads/random.rs"]
 mod random;
+#[allow(dead_code)]
+#[path = "../loads/scope.rs"]
+mod scope;
 mod sides;
 mod stack;
 mod table;

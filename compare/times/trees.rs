@@ -1,6 +1,7 @@
 // The trees that are timed, of some number of nodes with four properties each.
 use crate::blobs::{build, put_word, Layout, Node};
 use crate::random::Random;
+use crate::scope::DEPTH;
 
 const PROPERTIES: [&[u8]; 8] =
     [b"compatible", b"reg", b"status", b"interrupts", b"clocks", b"#size-cells", b"phandle", b"label"];
@@ -20,12 +21,12 @@ pub fn wide(nodes: usize) -> Node {
     named(String::new(), 0, (1..nodes).map(|i| named(format!("bay@{i:x}"), i, vec![])).collect())
 }
 
-// Chains of 15 nodes under the root.
+// Chains under the root, as deep as loads.
 pub fn deep(nodes: usize) -> Node {
     let hub =
-        |i: usize, d: usize, below: Option<Node>| named(format!("hub@{:x}", i * 16 + d), i, Vec::from_iter(below));
-    let chain = |i: usize| (1..16).rev().fold(None, |below, d| Some(hub(i, d, below)));
-    named(String::new(), 0, (0..nodes / 15).filter_map(chain).collect())
+        |i: usize, d: usize, below: Option<Node>| named(format!("hub@{:x}", i * DEPTH + d), i, Vec::from_iter(below));
+    let chain = |i: usize| (1..DEPTH).rev().fold(None, |below, d| Some(hub(i, d, below)));
+    named(String::new(), 0, (0..nodes / (DEPTH - 1)).filter_map(chain).collect())
 }
 
 // Buses with devices, some of which have parts of their own; no two alike.

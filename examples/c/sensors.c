@@ -239,7 +239,7 @@ static int print_bay(const struct tree *t, size_t bay)
     return 1;
 }
 
-/* The bays at the row and below it. A loaded tree is at most 16 nodes deep, so the calls are too. */
+/* The bays at the row and below it. A loaded tree is at most DANGRISUK_DEPTH nodes deep, so the calls are too. */
 static int print_bays(const struct tree *t, size_t row)
 {
     int good = !begins(name_of(t, row), "bay@") || print_bay(t, row);

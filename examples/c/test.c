@@ -39,6 +39,7 @@ int main(int argc, char **argv)
     test_enclosure_rows(argv[1]);
     test_enclosure_properties(argv[1]);
     test_damaged(argv[1]);
+    test_daisy_chain(argv[1]);
     printf("%lu compared, %lu differ\n", compared, differ);
     return differ == 0 ? 0 : 1;
 }

@@ -35,6 +35,9 @@ impl Counts {
     }
 }
 
+// How deep nodes may nest; the root is at depth 1.
+const DEPTH: usize = 64;
+
 // Whether our refusal is that of the depth: a ParseError where a node opens.
 fn too_deep(b: &[u8], why: &str) -> bool {
     let at = why.strip_prefix("ParseError(").and_then(|rest| rest.strip_suffix(")")).and_then(|n| n.parse::<usize>().ok());
@@ -149,7 +152,7 @@ fn compare(what: &str, b: &[u8], whole: bool, random: &mut Random, c: &mut Count
                 (0..many.min(4)).for_each(|_| both.node(random.below(many), c));
             }
         }
-        (Ok(t), Err(why)) if too_deep(b, &why) && 16 < depth(&t.root) => c.deep += 1,
+        (Ok(t), Err(why)) if too_deep(b, &why) && DEPTH < depth(&t.root) => c.deep += 1,
         (Err(_), Err(why)) if too_deep(b, &why) => c.deep += 1,
         (t, m) => c.same(what, t.map(|_| "loaded"), m.map(|_| "loaded")),
     }
@@ -179,7 +182,7 @@ fn words(words: &[u32]) -> Vec<u8> {
     words.iter().flat_map(|word| word.to_be_bytes()).collect()
 }
 
-// Frame S; every byte of it set to every value, and every four bytes to words that mean something; chains of 14 to 19 nodes.
+// Frame S; every byte of it set to every value, and every four bytes to words that mean something; chains around the limit.
 fn made(random: &mut Random, c: &mut Counts) {
     #[rustfmt::skip]
     let s = [words(&[
@@ -201,7 +204,7 @@ fn made(random: &mut Random, c: &mut Counts) {
             compare("S", &copy, true, random, c);
         }
     }
-    for depth in 14..20 {
+    for depth in DEPTH - 2..=DEPTH + 3 {
         let size = 56 + 12 * depth as u32 + 2;
         let header = words(&[0xd00dfeed, size, 56, 56, 40, 17, 16, 0, 0, 0, 0, 0, 0, 0]);
         let blob = [header, words(&[1, 0x61000000].repeat(depth)), words(&vec![2; depth]), vec![0; 2]].concat();

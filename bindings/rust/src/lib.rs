@@ -57,7 +57,7 @@ pub enum DeviceTreeError {
 
     /// The word at this position is not one that may stand there.
     ///
-    /// Also where nodes are nested more than 16 deep, which the original has no error for: the word at the position is then 1,
+    /// Also where nodes are nested more than 64 deep, which the original has no error for: the word at the position is then 1,
     /// the token that opens a node, as it never is otherwise.
     ParseError(usize),
 
@@ -193,7 +193,7 @@ impl DeviceTree {
 }
 
 impl Node {
-    // The node of a row, and all below it: at most 16 levels, as the library loads no more.
+    // The node of a row, and all below it: as many levels as the library loads.
     fn of(tables: &Arc<Tables>, row: usize) -> Result<Node, str::Utf8Error> {
         let mut props = Vec::with_capacity(tables.props(row).len());
         for (name, value) in tables.props(row) {
@@ -209,7 +209,7 @@ impl Node {
         self.children.get(self.tables.place(row)).filter(is).or_else(|| self.children.iter().find(is))
     }
 
-    // The node of a row at or below this one, at most 16 levels down.
+    // The node of a row at or below this one, by its parents' rows.
     fn below(&self, row: usize) -> Option<&Node> {
         if row == self.row {
             return Some(self);

@@ -149,14 +149,17 @@ fn twins() {
     assert!(dt.root.children[1].find("a").is_some());
 }
 
-// 16 levels load. The token that would open the 17th is a ParseError, and only then does a 1 stand at its position.
+// 64 levels load. The token that would open the 65th is a ParseError, and only then does a 1 stand at its position.
 #[test]
 fn depth() {
+    const DEPTH: usize = 64;
     let chain = |depth: usize| blob(&bytes(&[[1, 0].repeat(depth), vec![2; depth]].concat()), &[0, 0]);
-    let dt = loaded(&chain(16));
-    assert!(std::iter::successors(Some(&dt.root), |node| node.children.first()).count() == 16);
-    for depth in [17, 18, 1000, 100_000] {
-        let at = 56 + 16 * 8;
+    for depth in [DEPTH - 1, DEPTH] {
+        let dt = loaded(&chain(depth));
+        assert_eq!(std::iter::successors(Some(&dt.root), |node| node.children.first()).count(), depth);
+    }
+    for depth in [DEPTH + 1, DEPTH + 2, 1000, 100_000] {
+        let at = 56 + 8 * DEPTH;
         assert_eq!(said(&chain(depth)), format!("ParseError({at})"));
         assert_eq!(chain(depth)[at..at + 4], [0, 0, 0, 1]);
     }

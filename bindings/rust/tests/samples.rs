@@ -1,4 +1,4 @@
-// The repository's sample enclosure and its two damaged copies.
+// The repository's sample enclosure, its two damaged copies, and the chain of expanders.
 mod common;
 use common::*;
 
@@ -9,6 +9,10 @@ fn sample(name: &str) -> Vec<u8> {
 
 fn count(node: &device_tree::Node) -> (usize, usize) {
     node.children.iter().map(count).fold((1, node.props.len()), |(n, p), (nodes, props)| (n + nodes, p + props))
+}
+
+fn depth(node: &device_tree::Node) -> usize {
+    1 + node.children.iter().map(depth).max().unwrap_or(0)
 }
 
 #[test]
@@ -40,6 +44,24 @@ fn units() {
         }
     }
     assert_eq!(slots, 16);
+}
+
+// The sensors of the tenth expander, 23 nodes deep, are the only ones that count in Fahrenheit.
+#[test]
+fn daisy_chain() {
+    let dt = loaded(&sample("daisy-chain.dtb"));
+    assert_eq!((count(&dt.root), depth(&dt.root)), ((61, 326), 23));
+    let mut path = "/sas@8000/expander@1".to_owned();
+    for expander in 1..=10 {
+        let at = dt.find(&path).unwrap();
+        assert_eq!(at.prop_u32("reg").unwrap(), expander);
+        for bay in [0, 1] {
+            let sensor = at.find(&format!("bay@{bay}/sensor@{:x}", 0x48 + bay)).unwrap();
+            assert_eq!(sensor.prop_str("unit").unwrap(), if expander < 10 { "celsius" } else { "fahrenheit" });
+        }
+        path += &format!("/port@24/expander@{:x}", expander + 1);
+    }
+    assert!(dt.find(&path).is_none());
 }
 
 #[test]

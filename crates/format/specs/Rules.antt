@@ -21,7 +21,7 @@ sizeZero r = eqb (r .size) 0
 
 -- "Property names may lie outside the strings block": anywhere in the blob.
 unfoldable pub ours : Rules
-ours = record { depthLimit = λ b. 16; isLast = sizeZero; stringsEnd = λ b. length b }
+ours = record { depthLimit = λ b. 64; isLast = sizeZero; stringsEnd = λ b. length b }
 
 -- The Rust has no limit: each node takes more than a byte, so none is deeper than the blob is long.
 unfoldable pub original : Rules

@@ -17,7 +17,7 @@ pub const PROPERTY_WIDTH: usize = 4;
 pub const NONE: u32 = 4294967295;
 
 // How deep nodes may nest; the root is at depth 1.
-pub const DEPTH: usize = 16;
+pub const DEPTH: usize = 64;
 
 // Why a load is refused: the Rust's reasons, and four of our own. A position, or the rows needed.
 pub enum DeviceTreeError {

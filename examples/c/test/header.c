@@ -6,6 +6,7 @@
 void test_answer_names(void)
 {
     NAMED(ANSWER, 6);
+    NAMED(DEPTH, 64);
     NAMED(OK, 0);
     NAMED(INVALID_MAGIC, 1);
     NAMED(SIZE_MISMATCH, 2);

@@ -126,7 +126,7 @@ void frame_of(const uint32_t *words, size_t count, const char *strings, size_t s
 
 void chain(size_t depth)
 {
-    uint32_t words[3 * 17];
+    uint32_t words[3 * (DANGRISUK_DEPTH + 1)];
     for (size_t i = 0; i < depth; i++) {
         words[2 * i] = 1;
         words[2 * i + 1] = 0x61000000;

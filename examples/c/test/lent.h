@@ -51,15 +51,15 @@ void frame_s(void);
 /* A blob with no reservations, its structure block at 56 and these words in it, then these bytes as strings. */
 void frame_of(const uint32_t *words, size_t count, const char *strings, size_t strings_len);
 
-/* Nodes named `a`, one inside another, 17 at most. */
+/* Nodes named `a`, one inside another, at most one more than loads; the first opens at 56, each other one 8 bytes further. */
 void chain(size_t depth);
 
 /* ---- the tables: room for these rows, numbers behind it that no call is lent, and what stands in all of them before a load */
 
 enum {
     RESERVATIONS = 4,
-    NODES = 64,
-    PROPERTIES = 320,
+    NODES = DANGRISUK_DEPTH + 8,
+    PROPERTIES = 340,
     RESERVED_LEN = DANGRISUK_RESERVATION_WIDTH * RESERVATIONS,
     NODES_LEN = DANGRISUK_NODE_WIDTH * NODES,
     PROPS_LEN = DANGRISUK_PROPERTY_WIDTH * PROPERTIES,

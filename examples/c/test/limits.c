@@ -1,4 +1,6 @@
 /* What a porter gets wrong, the limits, and rows that no load wrote. */
+#include <string.h>
+
 #include "tests.h"
 
 void test_layout(void)
@@ -25,11 +27,24 @@ void test_layout(void)
 
 void test_depth(void)
 {
-    chain(16);
-    expect_load("a chain of 16 nodes", NUMBERS(0, 17, 0, 1, 16, 0));
-    expect_find("/a/a/a/a/a/a/a/a/a/a/a/a/a/a/a", NUMBERS(0, 15));
-    chain(17);
-    expect_load("a chain of 17 nodes", NUMBERS(7, 56 + 8 * 16));
+    char path[2 * DANGRISUK_DEPTH + 1] = "";
+    size_t token = 56 + 8 * DANGRISUK_DEPTH;
+    for (size_t depth = 1; depth <= DANGRISUK_DEPTH; depth++) {
+        chain(depth);
+        expect_load("a chain that is not too deep", NUMBERS(0, 17, 0, 1, depth, 0));
+        expect_find(depth == 1 ? "/" : path, NUMBERS(0, depth - 1));
+        strcat(path, "/a");
+    }
+    chain(DANGRISUK_DEPTH + 1);
+    expect_load("a node too deep", NUMBERS(7, token));
+    set_word(token + 4, 0xff000000);
+    expect_load("a node too deep, its name not UTF-8", NUMBERS(7, token));
+    set_blob(blob, token + 4);
+    set_word(4, (uint32_t)blob_len);
+    expect_load("a node too deep, the blob ends with its token", NUMBERS(7, token));
+    set_blob(blob, token + 3);
+    set_word(4, (uint32_t)blob_len);
+    expect_load("a node too deep, its token not whole", NUMBERS(3));
 }
 
 void test_room(void)

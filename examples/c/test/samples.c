@@ -1,4 +1,4 @@
-/* The samples: rows, paths and properties of the enclosure, and the two refusals. */
+/* The samples: rows, paths and properties of the enclosure, the two refusals, and the chain of expanders. */
 #include <stdio.h>
 #include <stdlib.h>
 #include <string.h>
@@ -59,21 +59,27 @@ static size_t linked(size_t row)
     return count;
 }
 
-void test_enclosure_rows(const char *folder)
+/* The links lead to each row that was loaded, and so do the paths. */
+static void expect_rows(void)
 {
-    static const uint64_t reservations[] = {0x80000000, 0x10000, 0x9ff00000, 0x80000, 0, 0};
     char room[512];
-    set_sample(folder, "enclosure.dtb");
-    expect_load("enclosure.dtb", NUMBERS(0, 17, 0, 3, 52, 280));
-    for (size_t i = 0; i < COUNT(reservations); i++) {
-        expect_number("reservation rows of the enclosure", reserved[i], reservations[i]);
-    }
-    expect_number("nodes that the links lead to", linked(0), 52);
+    expect_number("nodes that the links lead to", linked(0), node_count);
     for (size_t row = 0; row < node_count; row++) {
         char *path = path_of(row, room, sizeof room);
         expect_find(path, NUMBERS(0, row));
         expect_find_from(0, path + 1, NUMBERS(0, row));
     }
+}
+
+void test_enclosure_rows(const char *folder)
+{
+    static const uint64_t reservations[] = {0x80000000, 0x10000, 0x9ff00000, 0x80000, 0, 0};
+    set_sample(folder, "enclosure.dtb");
+    expect_load("enclosure.dtb", NUMBERS(0, 17, 0, 3, 52, 280));
+    for (size_t i = 0; i < COUNT(reservations); i++) {
+        expect_number("reservation rows of the enclosure", reserved[i], reservations[i]);
+    }
+    expect_rows();
     expect_load_in("exact room for the enclosure", 6, 7 * 52, 4 * 280, NUMBERS(0, 17, 0, 3, 52, 280));
     expect_load_in("a reservation row less", 4, 7 * 52, 4 * 280, NUMBERS(8, 3));
     expect_load_in("a node row less", 6, 7 * 51, 4 * 280, NUMBERS(9, 52));
@@ -119,4 +125,33 @@ void test_damaged(const char *folder)
     expect_load("damaged-shifted.dtb", NUMBERS(4, 4212));
     set_sample(folder, "damaged-short.dtb");
     expect_load("damaged-short.dtb", NUMBERS(2));
+}
+
+/* How many nodes the row is inside, and itself. */
+static size_t depth_of(size_t row)
+{
+    size_t depth = 1;
+    for (uint32_t at = node(row, DANGRISUK_NODE_PARENT); at != DANGRISUK_NONE; at = node(at, DANGRISUK_NODE_PARENT)) {
+        depth++;
+    }
+    return depth;
+}
+
+/* The sensors at depth 23 count in Fahrenheit, all others in Celsius. */
+void test_daisy_chain(const char *folder)
+{
+    size_t deepest = 0, sensors = 0;
+    set_sample(folder, "daisy-chain.dtb");
+    expect_load("daisy-chain.dtb", NUMBERS(0, 17, 0, 2, 61, 326));
+    expect_rows();
+    for (size_t row = 0; row < node_count; row++) {
+        prop(dangrisuk_has_prop, row, "unit");
+        if (answer[0] == DANGRISUK_OK) {
+            sensors++;
+            expect_text("the unit of a sensor", row, "unit", depth_of(row) == 23 ? "fahrenheit" : "celsius");
+        }
+        deepest = depth_of(row) > deepest ? depth_of(row) : deepest;
+    }
+    expect_number("sensors of the chain", sensors, 20);
+    expect_number("the depth of the chain", deepest, 23);
 }

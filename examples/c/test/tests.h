@@ -37,5 +37,6 @@ void test_null(void);
 void test_enclosure_rows(const char *folder);
 void test_enclosure_properties(const char *folder);
 void test_damaged(const char *folder);
+void test_daisy_chain(const char *folder);
 
 #endif
