@@ -19,7 +19,7 @@
  * - Nothing is allocated, and nothing is kept from one call to the next: the library has no writable data of its own. Calls may run
  *   at the same time in several threads if none writes what another one uses.
  * - It calls nothing outside itself. Its recursion follows the nodes, which nest DANGRISUK_DEPTH deep at most: a load takes less than
- *   16 KiB of stack.
+ *   16 KiB of stack, as compiled for 64-bit x86.
  *
  * What the caller keeps:
  *

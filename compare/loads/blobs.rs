@@ -60,6 +60,13 @@ pub fn fix_size(b: &mut [u8]) {
     }
 }
 
+// The first bytes of a blob, saying their own length.
+pub fn first_part(b: &[u8], len: usize) -> Vec<u8> {
+    let mut part = b[..len].to_vec();
+    fix_size(&mut part);
+    part
+}
+
 struct Built {
     b: Vec<u8>,
     fill: u8,

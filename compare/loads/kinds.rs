@@ -118,9 +118,7 @@ pub fn cut(c: &mut Comparison) {
     for good in varied() {
         for len in 0..=good.len() {
             c.blob(good[..len].to_vec());
-            let mut b = good[..len].to_vec();
-            fix_size(&mut b);
-            c.blob(b);
+            c.blob(first_part(&good, len));
         }
     }
 }
@@ -160,9 +158,7 @@ pub fn endings(c: &mut Comparison) {
         for order in [[0, 2, 1], [2, 0, 1]] {
             let good = build(&tree, &[LAST], &Layout { order, end: false, ..Layout::USUAL });
             for len in 40..=good.len() {
-                let mut b = good[..len].to_vec();
-                fix_size(&mut b);
-                c.blob(b);
+                c.blob(first_part(&good, len));
             }
             for pos in (56..good.len() - 3).step_by(4) {
                 let rest = (good.len() - pos) as u32;
@@ -212,9 +208,7 @@ pub fn depths(c: &mut Comparison) {
                 [0, 1, 2, 3, 4, 0xff000000].iter().for_each(|word| c.blob(with_word(&good, pos, *word)));
             }
             for len in 0..good.len() {
-                let mut b = good[..len].to_vec();
-                fix_size(&mut b);
-                c.blob(b);
+                c.blob(first_part(&good, len));
             }
         }
     }
@@ -255,9 +249,7 @@ pub fn rooms(c: &mut Comparison) {
                 // A refusal that comes before the room.
                 let last = good.len() - if props == 0 { 8 } else { 10 };
                 (last - 40..last).step_by(4).for_each(|pos| c.blob(with_word(&good, pos, 7)));
-                let mut cut = good[..last - 8].to_vec();
-                fix_size(&mut cut);
-                c.blob(cut);
+                c.blob(first_part(&good, last - 8));
             }
         }
     }

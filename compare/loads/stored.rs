@@ -47,9 +47,7 @@ fn depths() -> Vec<Vec<u8>> {
     for name in [&b"in"[..], b"\xff"] {
         let b = build(&chain(DEPTH + 1, node(name, &[], &[])), &[LAST], &Layout::USUAL);
         for len in token..token + 9 {
-            let mut cut = b[..len].to_vec();
-            fix_size(&mut cut);
-            all.push(cut);
+            all.push(first_part(&b, len));
         }
     }
     all
@@ -112,9 +110,7 @@ fn changed() -> Vec<Vec<u8>> {
         all.extend([0, 1, 2, 3, 4, 17, 97, 102, 0xff000000, 0xffffffff].map(|word| with_word(&s, pos, word)));
     }
     for len in 0..102 {
-        let mut b = s[..len].to_vec();
-        fix_size(&mut b);
-        all.push(b);
+        all.push(first_part(&s, len));
     }
     let mut r = Random(1);
     all.extend((0..60).map(|_| random_blob(&mut r)));

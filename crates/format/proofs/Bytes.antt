@@ -98,10 +98,6 @@ pub part-length : (b : List ℕ) (p k : ℕ) → p + k ≤ length b → length (
 unfolding part
 part-length b p k h = length-take-le k (drop p b) (rw length-drop (omega arith))
 
--- all from a on, as a slice is lent
-pub tail-whole : (s : List ℕ) (a : ℕ) → take (length s - a) (drop a s) ≡ drop a s
-tail-whole s a = rw (← length-drop a s) (take-length (drop a s))
-
 module _ (b : List ℕ) where
   -- the bytes that stand at p, and those after them
   pub has-rest : (p : ℕ) {xs : List ℕ} → Has b p xs → drop p b ≡ xs ++ drop (length xs) (drop p b)

@@ -11,10 +11,11 @@ use lib.ListN.{length, drop, getD, drop-of-length-le}
 use lib.Seq.{take-suc, drop-cons, ext-getD}
 use lib.Dec.{eqb}
 use borrow.Author.Tests.{eqb-true, eqb-false, eq-eqb, ne-eqb}
+use borrow.Rule.Slice.PartAt.{part-to-end}
 use Rattle.format.specs.Bytes.{part, AreBytes}
 use Rattle.format.specs.Find.{SLASH, head, rest, same}
 use Rattle.format.proofs.Tools.{split, tested, if-yes, if-no}
-use Rattle.format.proofs.Bytes.{part-length, tail-whole}
+use Rattle.format.proofs.Bytes.{part-length}
 use Rattle.format.proofs.Names.{same-is}
 use Rattle.lookup.specs.Places.{NameEnd, Scan, lowest}
 
@@ -143,4 +144,4 @@ name-lent p r x = let e : r - 0 ≡ r = omega arith in x .first ∙ rw e
 
 pub rest-lent : (p : List ℕ) (r : ℕ) → NameEnd p r → rest p ≡ part p (r + 1) (length p - (r + 1))
 unfolding part
-rest-lent p r x = x .later ∙ sym (tail-whole p (r + 1))
+rest-lent p r x = x .later ∙ sym (part-to-end p (r + 1))

@@ -7,6 +7,7 @@ use mathlib.Core.List.{List, [], _∷_}
 use mathlib.Core.Bool.{true, false, _&&_}
 use lib.ListN.{length, drop, getD}
 use borrow.Author.Tests.{ne-eqb, eq-eqb, leb-true, le-leb, lt-leb, lt-ltb, le-ltb}
+use borrow.Rule.Slice.PartAt.{part-to-end}
 use Rattle.format.specs.Answer.{Refusal, Outcome, ok, refused, _>>=_, nothingFound, notUsable}
 use Rattle.format.specs.Bytes.{part}
 use Rattle.format.specs.Format.{NONE, nodeWidth}
@@ -16,7 +17,6 @@ use Rattle.format.specs.Load.{capacity}
 use Rattle.format.specs.Find.{head, rest, same, SLASH, afterSlash}
 use Rattle.format.specs.Lookup.{linkGood, linksGood, nameInside, nameAt, across, down, reach, usable, find-from, find}
 use Rattle.format.proofs.Tools.{both, tested, if-yes, if-no}
-use Rattle.format.proofs.Bytes.{tail-whole}
 use Rattle.format.proofs.Answer.{never, ok-same, then-ok, then-refused, check-ok, check-no}
 use Rattle.format.proofs.Lookup.{across-other, across-here, across-below, across-none, across-bad}
 use Rattle.format.proofs.Reached.{There, follows, led, links-of, links-good, Enough, next-enough, turns-enough}
@@ -293,4 +293,4 @@ module _ (b t : List ℕ) (n : ℕ) (path : List ℕ) where
       -- after the slash, a path from row 0
       pub tree-reach : getD path 0 0 ≡ 0x2f → reach b (nodesIn n t) 0 (part path 1 (length path - 1)) ≡ find b t n path
       unfolding find part
-      tree-reach d = rw (tail-whole path 1) (sym (then-ok _ _ (check-ok _ u) (then-ok _ _ (slash-first path l d) refl)))
+      tree-reach d = rw (part-to-end path 1) (sym (then-ok _ _ (check-ok _ u) (then-ok _ _ (slash-first path l d) refl)))

@@ -10,7 +10,7 @@ use lib.ListN.{length, take, drop, getD, set, drop-of-length-le}
 use lib.Seq.{drop-cons, take-suc, take-suc-set}
 use Rattle.format.specs.Answer.{orZero}
 use Rattle.format.specs.Read.{read-be-u32}
-use Rattle.format.proofs.Bytes.{tail-whole}
+use borrow.Rule.Slice.PartAt.{part-to-end}
 use Rattle.queries.specs.Fields.{digitOf, firstOf, restOf, numberFrom, numberOf, before, pairsOf, bytesOf, wordsIn, gathered, gatheredOf, wordsOf}
 use Rattle.queries.specs.declared.fields.Number.the-variants as number
 
@@ -225,7 +225,7 @@ drop-past s i h = let g : length s ≤ i + 1 = omega arith in drop-of-length-le 
 pub tail-none : (s : List ℕ) (a : ℕ) → a ≡ length s → take (length s - a) (drop a s) ≡ drop (a + 1) s
 tail-none s a e =
     let g : length s ≤ a = omega arith in
-    tail-whole s a ∙ drop-of-length-le s g ∙ sym (drop-past s a g)
+    part-to-end s a ∙ drop-of-length-le s g ∙ sym (drop-past s a g)
 
 pub first-nil : (s : List ℕ) (i : ℕ) → length s ≤ i → firstOf (drop i s) ≡ []
 unfolding firstOf

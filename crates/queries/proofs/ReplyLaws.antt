@@ -15,7 +15,7 @@ use Rattle.queries.specs.declared.fields.Count.{Count}
 use Rattle.queries.specs.declared.fields.Count.the-variants as count
 use Rattle.queries.specs.declared.letters.Bounded.{Bounded}
 use Rattle.queries.specs.declared.letters.Bounded.the-variants as bounded
-use Rattle.format.proofs.Bytes.{tail-whole}
+use borrow.Rule.Slice.PartAt.{part-to-end}
 
 -- ---- bytes that were put
 
@@ -77,7 +77,7 @@ module _ (room : ℕ) (line : List ℕ) where
       (letter : ℕ) → 2 ≤ length line → getD line 1 0 ≡ 32 → getD line 0 0 ≡ letter →
       reply room line ≡ letterReply room letter (take (length line - 2) (drop 2 line))
   unfolding reply
-  by-letter letter p q e = rw (tail-whole line 2, ← e) (simp (le-ltb (length line) 2 p, eq-eqb (getD line 1 0) 32 q))
+  by-letter letter p q e = rw (part-to-end line 2, ← e) (simp (le-ltb (length line) 2 p, eq-eqb (getD line 1 0) 32 q))
 
 pub other-letter :
     (room l : ℕ) (s : List ℕ) → (l ≡ 65 → ⊥) → (l ≡ 87 → ⊥) → (l ≡ 76 → ⊥) → (l ≡ 90 → ⊥) → (l ≡ 83 → ⊥) → (l ≡ 85 → ⊥) →

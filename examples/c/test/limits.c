@@ -25,6 +25,13 @@ void test_layout(void)
     expect_load("a property behind a child", NUMBERS(4, 76));
 }
 
+/* The blob's first bytes, saying their own length. */
+static void cut(size_t len)
+{
+    set_blob(blob, len);
+    set_word(4, (uint32_t)len);
+}
+
 void test_depth(void)
 {
     char path[2 * DANGRISUK_DEPTH + 1] = "";
@@ -39,11 +46,9 @@ void test_depth(void)
     expect_load("a node too deep", NUMBERS(7, token));
     set_word(token + 4, 0xff000000);
     expect_load("a node too deep, its name not UTF-8", NUMBERS(7, token));
-    set_blob(blob, token + 4);
-    set_word(4, (uint32_t)blob_len);
+    cut(token + 4);
     expect_load("a node too deep, the blob ends with its token", NUMBERS(7, token));
-    set_blob(blob, token + 3);
-    set_word(4, (uint32_t)blob_len);
+    cut(token + 3);
     expect_load("a node too deep, its token not whole", NUMBERS(3));
 }
 

@@ -2,7 +2,7 @@
 use Prim.Native.Nat.{_+_}
 use native.Mathlib.Omega.{arith}
 use mathlib.Core.Path.{_∙_, sym}
-use Rattle.format.proofs.Bytes.{tail-whole}
+use borrow.Rule.Slice.PartAt.{part-to-end}
 use Rattle.queries.proofs.FieldLaws.{tail-none}
 use borrow.Author.Needs.{needs}
 use Rattle.queries.proofs.fields.rest.Statement.{statement}
@@ -18,7 +18,7 @@ returns-2 : tie.Need-returns-2
 returns-2 c =
     let args = c .before .before .before .before .args in
     let end = c .before .before .end in
-    tail-whole (args .s .now) (end .result + 1) ∙ sym (end .ensures .rest)
+    part-to-end (args .s .now) (end .result + 1) ∙ sym (end .ensures .rest)
 
 pub rest-spec : {M : Type 1} → statement M
 rest-spec =
