@@ -3,7 +3,7 @@
 #
 #     crates/reader/utf8_steps.py > crates/reader/src/utf8/steps.rt
 #
-# No proof relies on it: the rule is computed over the table in the source (crates/reader/proofs/Expected.antt).
+# No proof relies on it: the rule is computed over the table in the source (crates/reader/proofs/utf8/by_table).
 
 TAIL = (0x80, 0xBF)
 
