@@ -144,8 +144,8 @@ module _ (b : List ℕ) (i : ℕ) where
   at-end h q k = rw (drop-past b i h) (goes-end q k)
 
   pub end-plain : length b ≤ i → goesOn [] (drop i b) ≡ true
-  unfolding goesOn
-  end-plain h = rw (drop-past b i h)
+  unfolding goes expected expects states
+  end-plain h = at-end h 0 (omega arith)
 
   -- the rest of the bytes, where the ones before are passed
   pub rest : from-utf8 b ≡ goesOn [] (drop i b) → utf8Check (take (length b - i) (drop i b)) ≡ utf8Check b
