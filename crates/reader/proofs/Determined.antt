@@ -4,8 +4,8 @@ use mathlib.Core.Path.{_≡_, refl, sym, ap, _∙_}
 use Prim.Native.Nat.{ℕ}
 use mathlib.Core.List.{List}
 use lib.ListN.{length}
-use Rattle.format.specs.Answer.{numbers, itself, nothing, place, spanAt, orEmpty, orZero}
-use Rattle.format.specs.Read.{aligned, read-be-u32, read-be-u64, read-bstring0, subslice, utf8Check}
+use Rattle.format.specs.Answer.{numbers, itself, place, spanAt, orEmpty, orZero}
+use Rattle.format.specs.Read.{aligned, read-be-u32, read-be-u64, read-bstring0, subslice}
 use Rattle.reader.specs.declared.Word.{Word}
 use Rattle.reader.specs.declared.Word.the-variants as word
 use Rattle.reader.specs.declared.Long.{Long}
@@ -14,11 +14,9 @@ use Rattle.reader.specs.declared.Place.{Place}
 use Rattle.reader.specs.declared.Place.the-variants as at
 use Rattle.reader.specs.declared.Span.{Span}
 use Rattle.reader.specs.declared.Span.the-variants as span
-use Rattle.reader.specs.declared.Checked.{Checked}
-use Rattle.reader.specs.declared.Checked.the-variants as checked
 use Rattle.reader.specs.declared.Read.{Read}
 use Rattle.reader.specs.declared.Read.the-variants as token
-use Rattle.reader.specs.Numbers.{wordNumbers, longNumbers, placeNumbers, spanNumbers, checkedNumbers, tokenNumbers}
+use Rattle.reader.specs.Numbers.{wordNumbers, longNumbers, placeNumbers, spanNumbers, tokenNumbers}
 
 -- ---- an answer's numbers determine it
 
@@ -50,13 +48,6 @@ span-by-numbers (span.Part a m) span.Short e = cc
 span-by-numbers span.Short (span.Part b n) e = cc
 span-by-numbers span.Short span.Short e = refl
 
-pub checked-by-numbers : (r s : Checked) → checkedNumbers r ≡ checkedNumbers s → r ≡ s
-unfolding checkedNumbers
-checked-by-numbers checked.Utf8 checked.Utf8 e = refl
-checked-by-numbers checked.Utf8 checked.NotUtf8 e = cc
-checked-by-numbers checked.NotUtf8 checked.Utf8 e = cc
-checked-by-numbers checked.NotUtf8 checked.NotUtf8 e = refl
-
 pub token-by-numbers : (r s : Read) → tokenNumbers r ≡ tokenNumbers s → r ≡ s
 unfolding tokenNumbers
 token-by-numbers (token.Got t) (token.Got u) e =
@@ -71,10 +62,6 @@ token-by-numbers token.Short token.Short e = refl
 pub align-determined : (val to : ℕ) (r s : Place)
     → placeNumbers r ≡ numbers itself (aligned val to) → placeNumbers s ≡ numbers itself (aligned val to) → r ≡ s
 align-determined val to r s h k = place-by-numbers r s (h ∙ sym k)
-
-pub from-utf8-determined : (buf : List ℕ) (r s : Checked)
-    → checkedNumbers r ≡ numbers nothing (utf8Check buf) → checkedNumbers s ≡ numbers nothing (utf8Check buf) → r ≡ s
-from-utf8-determined buf r s h k = checked-by-numbers r s (h ∙ sym k)
 
 module _ (buf : List ℕ) (start end : ℕ) where
   pub subslice-determined : (r s : Span)

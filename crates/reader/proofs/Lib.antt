@@ -1,8 +1,7 @@
--- Laws for callers and for the proofs here; Expected is for the UTF-8 check alone.
+-- Laws for callers and for the proofs here.
 pub mod Outcomes
 pub mod Rounding
 pub mod Numbers
 pub mod Strings
 pub mod Parts
-mod Expected
 pub mod Determined

@@ -4,9 +4,9 @@
 use mathlib.Core.Path.{_≡_, refl, sym, ap, _∙_}
 use Prim.Native.Nat.{ℕ}
 use mathlib.Core.List.{List}
-use Rattle.format.specs.Answer.{Outcome, ok, refused, unexpectedEndOfInput, utf8Error, refusalNumbers, numbers, itself, nothing, place, orZero, orEmpty}
+use Rattle.format.specs.Answer.{Outcome, ok, refused, unexpectedEndOfInput, refusalNumbers, numbers, itself, place, orZero, orEmpty}
 use Rattle.format.specs.Answer as answer
-use Rattle.format.proofs.Answer.{itself-same, nothing-same, place-same}
+use Rattle.format.proofs.Answer.{itself-same, place-same}
 use Rattle.reader.specs.declared.Word.{Word}
 use Rattle.reader.specs.declared.Word.the-variants as word
 use Rattle.reader.specs.declared.Long.{Long}
@@ -15,13 +15,11 @@ use Rattle.reader.specs.declared.Place.{Place}
 use Rattle.reader.specs.declared.Place.the-variants as at
 use Rattle.reader.specs.declared.Span.{Span}
 use Rattle.reader.specs.declared.Span.the-variants as span
-use Rattle.reader.specs.declared.Checked.{Checked}
-use Rattle.reader.specs.declared.Checked.the-variants as checked
 use Rattle.reader.specs.declared.Token.{Token}
 use Rattle.reader.specs.declared.Read.{Read}
 use Rattle.reader.specs.declared.Read.the-variants as token
-use Rattle.reader.specs.Numbers.{wordNumbers, longNumbers, placeNumbers, spanNumbers, checkedNumbers, tokenNumbers}
-use Rattle.reader.specs.Outcomes.{wordOutcome, longOutcome, placeOutcome, spanOutcome, checkedOutcome, tokenOutcome}
+use Rattle.reader.specs.Numbers.{wordNumbers, longNumbers, placeNumbers, spanNumbers, tokenNumbers}
+use Rattle.reader.specs.Outcomes.{wordOutcome, longOutcome, placeOutcome, spanOutcome, tokenOutcome}
 
 -- ---- Word
 
@@ -107,27 +105,6 @@ span-got {r} m k e = sym (span-outcome r m e) ∙ ap spanOutcome k
 pub span-short : {r : Span} (m : Outcome answer.Span) → r ≡ span.Short → spanNumbers r ≡ numbers place m → m ≡ refused unexpectedEndOfInput
 unfolding spanOutcome
 span-short {r} m k e = sym (span-outcome r m e) ∙ ap spanOutcome k
-
--- ---- Checked
-
-checked-numbers : (r : Checked) → checkedNumbers r ≡ numbers nothing (checkedOutcome r)
-unfolding checkedNumbers checkedOutcome numbers nothing refusalNumbers
-checked-numbers checked.Utf8 = refl
-checked-numbers checked.NotUtf8 = refl
-
-pub checked-promise : (r : Checked) {m : Outcome (Unit {0})} → checkedOutcome r ≡ m → checkedNumbers r ≡ numbers nothing m
-checked-promise r e = checked-numbers r ∙ ap (numbers nothing) e
-
-pub checked-outcome : (r : Checked) (m : Outcome (Unit {0})) → checkedNumbers r ≡ numbers nothing m → checkedOutcome r ≡ m
-checked-outcome r m e = nothing-same (checkedOutcome r) m (sym (checked-numbers r) ∙ e)
-
-pub checked-good : {r : Checked} (m : Outcome (Unit {0})) → r ≡ checked.Utf8 → checkedNumbers r ≡ numbers nothing m → m ≡ ok tt
-unfolding checkedOutcome
-checked-good {r} m k e = sym (checked-outcome r m e) ∙ ap checkedOutcome k
-
-pub checked-bad : {r : Checked} (m : Outcome (Unit {0})) → r ≡ checked.NotUtf8 → checkedNumbers r ≡ numbers nothing m → m ≡ refused utf8Error
-unfolding checkedOutcome
-checked-bad {r} m k e = sym (checked-outcome r m e) ∙ ap checkedOutcome k
 
 -- ---- Read, of a token
 

@@ -1,5 +1,4 @@
--- What the promises cite (Numbers), what callers turn them into (Outcomes), and what private contracts cite (Parts, Expected).
+-- What the promises cite (Numbers), what callers turn them into (Outcomes), and what private contracts cite (Parts).
 pub mod Numbers
 pub mod Outcomes
 pub mod Parts
-pub mod Expected

@@ -1,4 +1,4 @@
--- Each answer's number and values, by document 01 ("When the reader says no"): 0 and what it carries, 3, or 5.
+-- Each answer's number and values, by document 01 ("When the reader says no"): 0 and what it carries, or 3.
 use Prim.Native.Nat.{ℕ}
 use mathlib.Core.List.{List, [], _∷_}
 use Rattle.reader.specs.declared.Word.{Word}
@@ -9,8 +9,6 @@ use Rattle.reader.specs.declared.Place.{Place}
 use Rattle.reader.specs.declared.Place.the-variants as place
 use Rattle.reader.specs.declared.Span.{Span}
 use Rattle.reader.specs.declared.Span.the-variants as span
-use Rattle.reader.specs.declared.Checked.{Checked}
-use Rattle.reader.specs.declared.Checked.the-variants as checked
 use Rattle.reader.specs.declared.Read.{Read}
 use Rattle.reader.specs.declared.Read.the-variants as token
 
@@ -29,10 +27,6 @@ placeNumbers place.Short = 3 ∷ []
 unfoldable pub spanNumbers : Span → List ℕ
 spanNumbers (span.Part start len) = 0 ∷ start ∷ len ∷ []
 spanNumbers span.Short = 3 ∷ []
-
-unfoldable pub checkedNumbers : Checked → List ℕ
-checkedNumbers checked.Utf8 = 0 ∷ []
-checkedNumbers checked.NotUtf8 = 5 ∷ []
 
 unfoldable pub tokenNumbers : Read → List ℕ
 tokenNumbers (token.Got t) = 0 ∷ t .number ∷ []

@@ -1,6 +1,6 @@
 -- Each answer as the outcome that it stands for. No promise cites these: callers turn a promise into them (proofs/Outcomes.antt).
 use Prim.Native.Nat.{ℕ}
-use Rattle.format.specs.Answer.{Outcome, ok, refused, unexpectedEndOfInput, utf8Error}
+use Rattle.format.specs.Answer.{Outcome, ok, refused, unexpectedEndOfInput}
 use Rattle.format.specs.Answer as answer
 use Rattle.reader.specs.declared.Word.{Word}
 use Rattle.reader.specs.declared.Word.the-variants as word
@@ -10,8 +10,6 @@ use Rattle.reader.specs.declared.Place.{Place}
 use Rattle.reader.specs.declared.Place.the-variants as place
 use Rattle.reader.specs.declared.Span.{Span}
 use Rattle.reader.specs.declared.Span.the-variants as span
-use Rattle.reader.specs.declared.Checked.{Checked}
-use Rattle.reader.specs.declared.Checked.the-variants as checked
 use Rattle.reader.specs.declared.Read.{Read}
 use Rattle.reader.specs.declared.Read.the-variants as token
 
@@ -30,10 +28,6 @@ placeOutcome place.Short = refused unexpectedEndOfInput
 unfoldable pub spanOutcome : Span → Outcome answer.Span
 spanOutcome (span.Part start len) = ok (record { offset = start; size = len })
 spanOutcome span.Short = refused unexpectedEndOfInput
-
-unfoldable pub checkedOutcome : Checked → Outcome (Unit {0})
-checkedOutcome checked.Utf8 = ok tt
-checkedOutcome checked.NotUtf8 = refused utf8Error
 
 unfoldable pub tokenOutcome : Read → Outcome ℕ
 tokenOutcome (token.Got t) = ok (t .number)

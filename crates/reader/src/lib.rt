@@ -1,4 +1,4 @@
-// Readers of a blob, as src/util.rs has them, and the UTF-8 check: any position of any bytes gets an answer.
+// Readers of a blob, as src/util.rs has them: any position of any bytes gets an answer.
 // 3 (`Short`) is the answer where the Rust gives UnexpectedEndOfInput, and where it would panic or wrap.
 ghost use mathlib.Core.Path.{_≡_};
 ghost use Prim.Native.Nat.{_+_, _≤_, _<_};
@@ -8,10 +8,6 @@ ghost use Rattle.format.specs.Bytes.{wordAt};
 ghost use Rattle.format.specs.Read.{aligned, read-be-u32, read-be-u64, read-bstring0, subslice};
 ghost use Rattle.reader.specs.Numbers.{wordNumbers, longNumbers, placeNumbers, spanNumbers, tokenNumbers};
 ghost use Rattle.reader.specs.Parts.{Within, cut};
-
-mod utf8;
-
-pub use utf8::from_utf8;
 
 // A number of 4 bytes.
 pub enum Word {
@@ -35,12 +31,6 @@ pub enum Place {
 pub enum Span {
     Part { start: usize, len: usize },
     Short,
-}
-
-// Whether bytes are UTF-8.
-pub enum Checked {
-    Utf8,
-    NotUtf8,
 }
 
 // `val` rounded up to a multiple of `to`. 3 where `to` is 0, or what it gives is past the range.

@@ -1,9 +1,9 @@
 #!/usr/bin/env python3
 # Writes the step table of the UTF-8 check from RFC 3629's grammar. By hand, from the repository's folder:
 #
-#     crates/reader/utf8_steps.py > crates/reader/src/utf8/steps.rt
+#     crates/utf8/utf8_steps.py > crates/utf8/src/steps.rt
 #
-# No proof relies on it: the rule is computed over the table in the source (crates/reader/proofs/utf8/by_table).
+# No proof relies on it: the rule is computed over the table in the source (crates/utf8/proofs/by_table).
 
 TAIL = (0x80, 0xBF)
 

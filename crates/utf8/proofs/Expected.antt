@@ -8,7 +8,7 @@ use mathlib.Core.List.{List, [], _∷_}
 use mathlib.Core.Bool.{Bool, true, false, _&&_}
 use mathlib.Core.Option.{Option, none, some}
 use lib.Dec.{eqb, ltb}
-use lib.ListN.{length, take, drop, getD}
+use lib.ListN.{length, take, drop, getD, drop-of-length-le}
 use lib.Seq.{drop-cons}
 use borrow.Rule.Slice.PartAt.{part-to-end}
 use borrow.Author.Tests.{lt-ltb, ltb-true}
@@ -17,8 +17,7 @@ use Rattle.format.specs.Choice.{if_then_else_}
 use Rattle.format.specs.Utf8.{Range, tail, second, within, leadingOnes, furtherBy, further, goesOn, from-utf8}
 use Rattle.format.specs.Read.{utf8Check}
 use Rattle.format.proofs.Tools.{split}
-use Rattle.reader.proofs.Strings.{drop-past}
-use Rattle.reader.specs.Expected.{states, expects, expected, after, goes, digit, entry, Table}
+use Rattle.utf8.specs.Expected.{states, expects, expected, after, goes, digit, entry, Table}
 
 -- ---- the table
 
@@ -141,7 +140,7 @@ module _ (b : List ℕ) (i : ℕ) where
   turn-plain h k = turn h (some []) (some []) (sym (further-plain (getD b i 0) k))
 
   pub at-end : length b ≤ i → (q : ℕ) → q < length states → goes (expected q) (drop i b) ≡ eqb q 0
-  at-end h q k = rw (drop-past b i h) (goes-end q k)
+  at-end h q k = rw (drop-of-length-le b h) (goes-end q k)
 
   pub end-plain : length b ≤ i → goesOn [] (drop i b) ≡ true
   unfolding goes expected expects states
