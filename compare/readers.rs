@@ -3,6 +3,8 @@
 // Each line of standard input is answered by one line: 0 and values, a refusal, or 16 for a bad line; parts by ` ; `.
 extern crate device_tree;
 
+#[path = "loads/answer.rs"]
+mod answer;
 #[allow(dead_code)]
 #[path = "loads/lines.rs"]
 mod lines;
@@ -17,9 +19,10 @@ mod scope;
 #[path = "loads/tree.rs"]
 mod tree;
 
+use answer::{Answer, Lookups};
 use device_tree::util::{align, SliceRead};
 use lines::{digit, spelled, FRAME, NAME, ROOM};
-use lookups::{Answer, Asked, Lookups};
+use lookups::Asked;
 use rows::Lent;
 use std::io::{self, BufRead, BufWriter, Write};
 use std::panic::catch_unwind;

@@ -1,9 +1,9 @@
 // Lookups in the rows of one blob by all who answer them: document 01's words, the library, and the original where the rows are those
 // of its load.
+use crate::answer::{Answer, Lookups};
 use crate::asks;
 use crate::compare::Counts;
 use crate::library::Library;
-use crate::lookups::{Answer, Lookups};
 use crate::random::Random;
 use crate::rows::Lent;
 use crate::scope::{Rows, NONE};

@@ -1,6 +1,7 @@
 // The static library's calls on plain slices: a slice goes as a pointer and a count of its elements. An answer has room for 6 numbers.
+use crate::answer::{Answer, Lookups};
 use crate::calls::{dangrisuk_find, dangrisuk_find_from, dangrisuk_load, dangrisuk_measure, Property, PROPERTIES};
-use crate::lookups::{self, Answer, Asked, Lookups, Said};
+use crate::lookups::{self, Asked, Said};
 use crate::ours::{Input, Ours, Speaks, Told};
 use crate::rows::Lent;
 use crate::scope::Room;

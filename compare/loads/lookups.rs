@@ -1,23 +1,10 @@
-// The lookups, whoever answers them, and what is said of a blob: by the original, and by document 01's words.
+// What is said of a blob and of the lookups after its load: by the original, and by document 01's words.
+use crate::answer::{Answer, Lookups};
 use crate::lines::{hex, text};
 use crate::original;
 use crate::rows::Lent;
 use crate::scope::{self, Room, Rows, DEPTH};
 use crate::tree::Tree;
-
-// A number of document 01, then what it carries.
-pub type Answer = Vec<u64>;
-
-pub trait Lookups {
-    // From the tree, by a path with its `/`.
-    fn find(&self, path: &[u8]) -> Answer;
-
-    // From the node of a row.
-    fn find_from(&self, row: usize, path: &[u8]) -> Answer;
-
-    // has_prop, prop_raw, prop_str, prop_u32 and prop_u64 of the node of a row.
-    fn properties(&self, row: usize, name: &[u8]) -> [Answer; 5];
-}
 
 // What is looked up in a loaded blob: a path, and a name at the row found.
 #[derive(Clone)]

@@ -5,6 +5,8 @@
 //   loads answer                                              answer lines by the original
 extern crate device_tree;
 
+#[allow(dead_code)]
+mod answer;
 mod asks;
 mod blobs;
 #[cfg(library)]
@@ -18,7 +20,6 @@ mod kinds;
 #[cfg(library)]
 mod library;
 mod lines;
-#[allow(dead_code)]
 mod lookups;
 mod original;
 mod ours;

@@ -4,7 +4,7 @@
 //! comments are document 01's own words, from "Finding a node and a property"
 //! where no other section is named.
 
-use crate::lookups::{Answer, Lookups};
+use crate::answer::{Answer, Lookups};
 use crate::scope::NONE;
 
 /// A blob with a node table and a property table lent to a lookup, and the

@@ -1,5 +1,5 @@
 // The original's lookups in a tree that it loaded, as document 01's numbers.
-use crate::lookups::{Answer, Lookups};
+use crate::answer::{Answer, Lookups};
 use crate::original::{given, Loaded};
 use device_tree::util::SliceReadError;
 use device_tree::{Node, PropError};
