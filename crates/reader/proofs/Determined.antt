@@ -72,6 +72,9 @@ pub align-determined : (val to : ℕ) (r s : Place)
     → placeNumbers r ≡ numbers itself (aligned val to) → placeNumbers s ≡ numbers itself (aligned val to) → r ≡ s
 align-determined val to r s h k = place-by-numbers r s (h ∙ sym k)
 
+pub aligned-determined : (val to : ℕ) (r s : ℕ) → r ≡ orZero (aligned val to) → s ≡ orZero (aligned val to) → r ≡ s
+aligned-determined val to r s h k = h ∙ sym k
+
 pub from-utf8-determined : (buf : List ℕ) (r s : Checked)
     → checkedNumbers r ≡ numbers nothing (utf8Check buf) → checkedNumbers s ≡ numbers nothing (utf8Check buf) → r ≡ s
 from-utf8-determined buf r s h k = checked-by-numbers r s (h ∙ sym k)
