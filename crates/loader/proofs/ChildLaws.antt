@@ -15,8 +15,8 @@ use Rattle.format.specs.Read.{read-be-u32}
 use Rattle.format.specs.Rows.{firstRow, nodeRows, nodeNumbers}
 use Rattle.format.proofs.Complete.{node-up}
 use Rattle.format.proofs.Rows.{node-pos}
-use Rattle.loader.specs.declared.Props.{Props}
-use Rattle.loader.specs.declared.Passed.{Passed}
+use Rattle.loader.specs.declared.write.Props.{Props}
+use Rattle.loader.specs.declared.write.Passed.{Passed}
 use Rattle.loader.specs.Pass.{PropsHere, PropsState, propsState, propsAfter, firstAt, HeadReady, headNumbers, HeadDone}
 use Rattle.loader.specs.Pass.{NodesHere, NodeHere, NodeReady, passed, nodeAfter, nodesAfter}
 use Rattle.loader.proofs.PropLaws.{after-long}

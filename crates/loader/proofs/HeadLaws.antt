@@ -6,20 +6,23 @@ use mathlib.Core.List.{List, [], _∷_}
 use lib.ListN.{length}
 use lib.Seq.{sets}
 use Rattle.format.specs.Answer.{orZero, orEmpty}
-use Rattle.format.specs.Bytes.{bigEndian, wordAt, align}
+use Rattle.format.specs.Bytes.{bigEndian, wordAt}
 use Rattle.format.specs.Format.{NONE, nodeWidth}
 use Rattle.format.specs.Tree.{Property}
 use Rattle.format.specs.Encodes.{Block, afterProperties}
-use Rattle.format.specs.Read.{read-be-u32, read-bstring0}
+use Rattle.format.specs.Read.{aligned, read-be-u32, read-bstring0}
 use Rattle.reader.proofs.Numbers.{word-total}
-use Rattle.loader.specs.declared.Props.{Props}
+use Rattle.reader.proofs.Rounding.{aligned-total}
+use Rattle.loader.specs.declared.write.Props.{Props}
 use Rattle.loader.specs.Pass.{stringLength, PropsHere, PropsReady, PropsState, propsState, propsAfter, firstAt, HeadReady, childRow, headNumbers, HeadDone}
 
 module _ {b : List ℕ} {strings : Block} {p row prow : ℕ} {nodes props : List ℕ} (h : HeadReady b strings p row prow nodes props) where
-  module _ {len q : ℕ} (isLength : len ≡ length (orEmpty (read-bstring0 b (p + 4)))) (isFirst : q ≡ align (p + 4 + len + 1) 4) where
+  module _ {len q : ℕ} (isLength : len ≡ length (orEmpty (read-bstring0 b (p + 4)))) (isFirst : q ≡ orZero (aligned (p + 4 + len + 1) 4)) where
     first : q ≡ firstAt b p
     unfolding firstAt stringLength
-    first = isFirst ∙ ap (λ n. align (p + 4 + n + 1) 4) isLength
+    first =
+        isFirst ∙ ap (λ n. orZero (aligned (p + 4 + n + 1) 4)) isLength
+        ∙ aligned-total (p + 4 + length (orEmpty (read-bstring0 b (p + 4))) + 1) (omega (arith, h .nameInside, h .small))
 
     pub head-props : PropsReady b strings q prow props
     head-props =

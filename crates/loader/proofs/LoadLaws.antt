@@ -1,6 +1,5 @@
--- What the survey finds, in crate format's words: a load of the blob answers the same, and where it found a tree that tree stands there,
--- so that the stores may begin; and what the stores leave is what a load is to leave. Assumes, where it is named, that the blob's
--- elements are bytes.
+-- What the survey found is what a load answers, and the stores may begin; and what the stores leave is what a load is to leave.
+-- Assumes, where it is named, that the blob's elements are bytes.
 use mathlib.Core.Path.{_≡_, refl, sym, ap, ap₂, _∙_, subst}
 use Prim.Native.Nat.{ℕ, _+_, _-_, _*_, _/_, _≤_, _<_, _^_}
 use native.Mathlib.Omega.{arith}
@@ -28,136 +27,29 @@ use Rattle.format.proofs.Load.{capacity-fits, accepted}
 use Rattle.format.proofs.Sizes.{counts-fit, length-small, structure-is, strings-is}
 use Rattle.format.proofs.Sound.{sound}
 use Rattle.format.proofs.Complete.{only-tree}
-use Rattle.loader.specs.Check.{block, whyOf, count}
-use Rattle.loader.specs.Reserve.{listed, scanFrom, StoreReady}
+use Rattle.survey.specs.Nodes.{block}
+use Rattle.survey.specs.Outcomes.{whyOf}
+use Rattle.survey.specs.Reserve.{listed}
+use Rattle.survey.specs.Survey.{surveyOf}
+use Rattle.survey.specs.declared.Block.{Block}
+use Rattle.survey.specs.declared.DeviceTreeError.{DeviceTreeError}
+use Rattle.survey.specs.declared.DeviceTreeError.the-variants.{ReservationRoom, NodeRoom, PropertyRoom}
+use Rattle.survey.specs.declared.Plan.{Plan}
+use Rattle.survey.proofs.FoundLaws.{Finds, survey-finds, survey-refused, carried}
+use Rattle.loader.specs.Numbers.{loadedNumbers, lent}
 use Rattle.loader.specs.Pass.{NodeHere, NodeReady, State, nodeAfter}
-use Rattle.loader.specs.Survey.{headerOf, namesOf, surveyOf, loadedNumbers, lent}
-use Rattle.loader.specs.declared.Block.{Block}
-use Rattle.loader.specs.declared.DeviceTree.{DeviceTree}
+use Rattle.loader.specs.Store.{StoreReady}
 use Rattle.loader.specs.declared.Loaded.the-variants.{Tree as LoadedTree, Refused as LoadedRefused}
-use Rattle.loader.specs.declared.DeviceTreeError.{DeviceTreeError}
-use Rattle.loader.specs.declared.DeviceTreeError.the-variants.{ReservationRoom, NodeRoom, PropertyRoom}
-use Rattle.loader.specs.declared.loading.Header.{Header}
-use Rattle.loader.specs.declared.loading.Found.{Found}
-
--- ---- the survey and the load read the same
-
-record Full : Type 0 where
-  header : read.Header
-  reserved : List Reservation
-  root : read.Read Node
-
--- the header as the code has it
-own : read.Header → Header
-own h = record { structure = h .structure; strings = h .strings; reservations = h .reservations; boot = h .boot }
-
-full : List ℕ → Outcome Full
-full b =
-    read.header b >>= λ h.
-    listed b (h .reservations) >>= λ rs.
-    read.nodeLoad b (record { start = h .strings; end = ours .stringsEnd b }) (ours .depthLimit b) (h .structure) >>= λ root.
-    ok (record { header = h; reserved = rs; root = root })
-
-treeOf : Full → Tree
-treeOf f = record { boot = f .header .boot; reserved = f .reserved; root = f .root .value }
-
-foundOf : List ℕ → Full → Found
-foundOf b f = record {
-  structure = f .header .structure;
-  strings = namesOf b (own (f .header));
-  reservations = f .header .reservations;
-  tree = record {
-    version = version;
-    «boot_cpuid_phys» = f .header .boot;
-    reserved = (f .header .reservations + 16 * length (f .reserved) - f .header .reservations) / 16;
-    nodes = nodeCount (f .root .value);
-    props = propertyCount (f .root .value);
-  };
-}
-
-load-full : (b : List ℕ) → read.load ours b ≡ (full b >>= λ f. ok (treeOf f))
-unfolding read.load read.loadWithin read.body full treeOf listed
-load-full b = simp (then-then, ok-then)
-
-survey-full : (b : List ℕ) → surveyOf b ≡ (full b >>= λ f. ok (foundOf b f))
-unfolding surveyOf headerOf scanFrom count full foundOf own block namesOf
-survey-full b = simp (then-then, ok-then)
-
-mapped-refused : {A B : Type 0} (m : Outcome A) (f : A → B) {r : Refusal} → (m >>= λ a. ok (f a)) ≡ refused r → m ≡ refused r
-unfolding _>>=_
-mapped-refused (ok a) f e = absurd (never (sym e))
-mapped-refused (refused s) f {r} e = ap refused (refused-same e)
-
-pub survey-refused : (b : List ℕ) (r : Refusal) → surveyOf b ≡ refused r → read.load ours b ≡ refused r
-survey-refused b r e = load-full b ∙ then-refused _ _ (mapped-refused (full b) (foundOf b) (sym (survey-full b) ∙ e))
-
--- ---- what was found
-
--- the tree that was found, and how the survey tells it
-pub record Finds (b : List ℕ) (v : Found) : Type 0 where
-  pub tree : Tree
-  pub loads : read.load ours b ≡ ok tree
-  pub says : loadedNumbers (LoadedTree (v .tree)) ≡ 0 ∷ treeNumbers tree
-  pub listed-at : listed b (v .reservations) ≡ ok (tree .reserved)
-  pub structure : v .structure ≡ wordAt b structureAt
-  pub start : v .strings .start ≡ wordAt b stringsAt
-  pub end : v .strings .end ≡ ours .stringsEnd b
-  pub reserved : v .tree .reserved ≡ length (tree .reserved)
-  pub nodes : v .tree .nodes ≡ nodeCount (tree .root)
-  pub props : v .tree .props ≡ propertyCount (tree .root)
-
-word-of : (b : List ℕ) (p : ℕ) {n : ℕ} → read.read-be-u32 b p ≡ ok n → n ≡ wordAt b p
-word-of b p e = ok-same (sym e ∙ read-there b 4 p (read-inside b 4 p e))
-
-record Offsets (b : List ℕ) (h : read.Header) : Type 0 where
-  structure : h .structure ≡ wordAt b structureAt
-  strings : h .strings ≡ wordAt b stringsAt
-
-offsets : (b : List ℕ) (h : read.Header) → read.header b ≡ ok h → Offsets b h
-unfolding read.header
-offsets b h e =
-    step _ _ e λ _ _ e.
-    step _ _ e λ _ _ e.
-    step _ _ e λ _ _ e.
-    step _ _ e λ _ _ e.
-    step _ _ e λ _ _ e.
-    step _ _ e λ _ _ e.
-    step _ _ e λ structure isStructure e.
-    step _ _ e λ strings isStrings e.
-    step _ _ e λ _ _ e.
-    step _ _ e λ _ _ e.
-    subst (Offsets b) (ok-same e) (record { structure = word-of b structureAt isStructure; strings = word-of b stringsAt isStrings })
-
-full-finds : (b : List ℕ) (f : Full) → full b ≡ ok f → Finds b (foundOf b f)
-unfolding full foundOf treeOf own namesOf loadedNumbers treeNumbers
-full-finds b f e =
-    step _ _ e λ h isHeader e₁.
-    step _ _ e₁ λ rs isListed e₂.
-    step _ _ e₂ λ root isRoot e₃.
-    let same : record { header = h; reserved = rs; root = root } ≡ f = ok-same e₃ in
-    let at = offsets b (f .header) (isHeader ∙ ap ok (ap (λ (g : Full). g .header) same)) in
-    let counted : (f .header .reservations + 16 * length (f .reserved) - f .header .reservations) / 16 ≡ length (f .reserved) = omega arith in
-    record {
-      tree = treeOf f;
-      loads = load-full b ∙ then-ok _ _ e refl;
-      says = rw counted;
-      listed-at = subst (λ (g : Full). listed b (g .header .reservations) ≡ ok (g .reserved)) same isListed;
-      structure = at .structure;
-      start = at .strings;
-      end = refl;
-      reserved = counted;
-      nodes = refl;
-      props = refl;
-    }
-
-pub survey-finds : (b : List ℕ) (v : Found) → surveyOf b ≡ ok v → Finds b v
-survey-finds b v e = step _ _ (sym (survey-full b) ∙ e) λ f h e. subst (Finds b) (ok-same e) (full-finds b f h)
 
 -- ---- measure
 
-pub measured : (b : List ℕ) (v : Found) → surveyOf b ≡ ok v → Measures b (loadedNumbers (LoadedTree (v .tree)))
+answer-says : (b : List ℕ) (v : Plan) (f : Finds b v) → loadedNumbers (LoadedTree (v .tree)) ≡ 0 ∷ treeNumbers (f .tree)
+unfolding loadedNumbers carried
+answer-says b v f = ap (λ ns. 0 ∷ ns) (f .says)
+
+pub measured : (b : List ℕ) (v : Plan) → surveyOf b ≡ ok v → Measures b (loadedNumbers (LoadedTree (v .tree)))
 unfolding numbers
-measured b v e = let f = survey-finds b v e in record { answers = f .says ∙ sym (ap (numbers treeNumbers) (f .loads)) }
+measured b v e = let f = survey-finds b v e in record { answers = answer-says b v f ∙ sym (ap (numbers treeNumbers) (f .loads)) }
 
 pub not-measured : (b : List ℕ) (why : DeviceTreeError) → surveyOf b ≡ refused (whyOf why) → Measures b (loadedNumbers (LoadedRefused why))
 unfolding numbers loadedNumbers
@@ -182,7 +74,7 @@ pub survey-refuses : (t : Tables) (b : List ℕ) (why : DeviceTreeError) → sur
 unfolding load.load
 survey-refuses t b why e = refusal t b why (then-refused _ _ (survey-refused b (whyOf why) e))
 
-module _ (t : Tables) (b : List ℕ) (v : Found) (e : surveyOf b ≡ ok v) where
+module _ (t : Tables) (b : List ℕ) (v : Plan) (e : surveyOf b ≡ ok v) where
   found : Finds b v
   found = survey-finds b v e
 
@@ -275,6 +167,6 @@ module _ (t : Tables) (b : List ℕ) (v : Found) (e : surveyOf b ≡ ok v) where
             let properties-are : properties′ ≡ sets (t .properties) 0 (propertyNumbers (rows b tree .properties)) =
             ap (λ (s : State). s .props) w ∙ ap₂ (λ q k. sets (t .properties) 0 (propertyNumbers (nodeProperties b k (tree .root) q))) (found .structure) (found .start) in
             record {
-              answers = found .says ∙ sym (ap (numbers treeNumbers) accepts);
+              answers = answer-says b v found ∙ sym (ap (numbers treeNumbers) accepts);
               leaves = rw (first, nodes-are, properties-are) (sym (ap (tablesAfter t b) accepts));
             }

@@ -21,12 +21,10 @@ use Rattle.format.proofs.Answer.{ok-same}
 use Rattle.format.proofs.Read.{read-string}
 use Rattle.format.proofs.Complete.{begins, node-complete, nodes-complete}
 use Rattle.format.proofs.Rows.{node-properties, properties-length, first-then-later}
-use Rattle.format.proofs.Sizes.{node-span, node-inside}
 use Rattle.reader.proofs.Numbers.{word-total}
 use Rattle.reader.proofs.Outcomes.{or-empty}
-use Rattle.loader.specs.declared.Passed.{Passed}
 use Rattle.loader.specs.Pass.{stringLength, PropsHere, propsAfter, firstAt, childRow, headNumbers}
-use Rattle.loader.specs.Pass.{NodesHere, NodeHere, NodeReady, State, passed, nodeAfter, nodesAfter}
+use Rattle.loader.specs.Pass.{NodesHere, NodeHere, State, nodeAfter, nodesAfter}
 use Rattle.loader.proofs.RowLaws.{relink, properties-then}
 use Rattle.loader.proofs.PropLaws.{token-is}
 
@@ -220,28 +218,3 @@ written b strings n p row prow parent sibling nodes props e = record {
   nodesLong = ap (λ (s : State). length (s .nodes)) e ∙ simp length-sets;
   propsLong = ap (λ (s : State). length (s .props)) e ∙ simp length-sets;
 }
-
--- ---- the root: what an accepted blob gives the pass, and what the pass leaves of it
-
-module _ (b : List ℕ) (strings : Block) (n : Node) (p : ℕ) (nodes props : List ℕ) where
-  pub root-ready : (left : ℕ) → GoodNode n → NodeAt b strings p n → depth n ≤ left → strings .end ≤ length b → length b < 2 ^ 32
-      → nodeWidth * nodeCount n ≤ length nodes → propertyWidth * propertyCount n ≤ length props → NodeReady b strings left p 0 0 nodes props
-  unfolding nodeWidth propertyWidth
-  root-ready left good at deep ends small nodeRoom propRoom =
-      let few : p + 9 * (nodeCount n + propertyCount n) ≤ length b = omega (arith, node-span n p, node-inside b strings p n at) in
-      record {
-        tree = n;
-        here = record { good = good; at = at };
-        ends = ends;
-        deep = deep;
-        nodeRoom = omega arith;
-        propRoom = omega arith;
-        nodeFew = omega arith;
-        propFew = omega arith;
-        small = small;
-      }
-
-  pub root-written : (r : Passed) {nodes′ props′ : List ℕ} → passed r nodes′ props′ ≡ nodeAfter b strings n p 0 0 NONE NONE nodes props
-      → (nodes′ ≡ sets nodes 0 (nodeNumbers (nodeRows n p 0 0 NONE NONE))) × (props′ ≡ sets props 0 (propertyNumbers (nodeProperties b (strings .start) n p)))
-  unfolding passed nodeAfter nodeWidth propertyWidth
-  root-written r e = (ap (λ (s : State). s .nodes) e, ap (λ (s : State). s .props) e)

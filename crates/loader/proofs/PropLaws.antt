@@ -13,7 +13,7 @@ use Rattle.format.specs.Bytes.{Has, bigEndian, word, wordAt, align}
 use Rattle.format.specs.Format.{PROP, propertyWidth}
 use Rattle.format.specs.Tree.{Property}
 use Rattle.format.specs.Encodes.{GoodName, GoodProperties, Block, PropertyAt, PropertiesAt, afterProperty, afterProperties}
-use Rattle.format.specs.Read.{read-be-u32, read-bstring0, Read}
+use Rattle.format.specs.Read.{aligned, read-be-u32, read-bstring0, Read}
 use Rattle.format.specs.Rows.{propertyRow, propertyRows, propertyNumbers}
 use Rattle.format.proofs.Answer.{ok-same}
 use Rattle.format.proofs.Bytes.{value-is, has-front-of, align-up}
@@ -21,6 +21,7 @@ use Rattle.format.proofs.Read.{read-word, read-string}
 use Rattle.format.proofs.Complete.{properties-complete}
 use Rattle.reader.proofs.Numbers.{word-total}
 use Rattle.reader.proofs.Outcomes.{or-zero, or-empty}
+use Rattle.reader.proofs.Rounding.{aligned-total}
 use Rattle.loader.specs.Pass.{stringLength, nameStart, nameLength, PropReady, propNumbers, PropsHere, PropsReady, PropsState, propsAfter}
 
 -- ---- one property: the numbers that were read are those of its row
@@ -29,8 +30,8 @@ module _ {b : List ℕ} {strings : Block} {p row : ℕ} {table : List ℕ} (h : 
   prop-size : {size : ℕ} → size ≡ orZero (read-be-u32 b (p + 4)) → size ≡ wordAt b (p + 4)
   prop-size e = e ∙ word-total b (p + 4) (omega (arith, h .inside))
 
-  pub prop-next : {size next : ℕ} → size ≡ orZero (read-be-u32 b (p + 4)) → next ≡ align (p + 12 + size) 4 → next ≡ align (p + 12 + wordAt b (p + 4)) 4
-  prop-next e k = k ∙ ap (λ n. align (p + 12 + n) 4) (prop-size e)
+  pub prop-next : {size next : ℕ} → size ≡ orZero (read-be-u32 b (p + 4)) → next ≡ orZero (aligned (p + 12 + size) 4) → next ≡ align (p + 12 + wordAt b (p + 4)) 4
+  prop-next e k = k ∙ ap (λ n. orZero (aligned (p + 12 + n) 4)) (prop-size e) ∙ aligned-total (p + 12 + wordAt b (p + 4)) (omega (arith, h .inside, h .small))
 
   pub prop-name : {offset : ℕ} → offset ≡ orZero (read-be-u32 b (p + 8)) → strings .start + offset ≡ nameStart b strings p
   unfolding nameStart

@@ -16,8 +16,8 @@ use Rattle.format.specs.Encodes.{GoodProperties, GoodNode, GoodNodes, afterProp
 use Rattle.format.specs.Encodes as encodes
 use Rattle.format.specs.Read.{read-bstring0}
 use Rattle.format.specs.Rows.{nodeRows, nodesRows, propertyRows, nodeProperties, nodesProperties, nodeNumbers, propertyNumbers}
-use Rattle.loader.specs.declared.Props.{Props}
-use Rattle.loader.specs.declared.Passed.{Passed}
+use Rattle.loader.specs.declared.write.Props.{Props}
+use Rattle.loader.specs.declared.write.Passed.{Passed}
 
 -- the length of the string at p, 0 where there is none: what the total reader gives
 unfoldable pub stringLength : List ℕ → ℕ → ℕ

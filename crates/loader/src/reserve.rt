@@ -1,42 +1,15 @@
-// The reservation list: a scan that finds its end, and the rows.
+// The rows of the reservation list.
 ghost use mathlib.Core.Path.{_≡_};
 ghost use mathlib.Core.List.{List};
 ghost use lib.Seq.{sets};
 ghost use Rattle.format.specs.Answer.{ok};
 ghost use Rattle.format.specs.Tree.{Reservation};
 ghost use Rattle.format.specs.Rows.{reservationNumbers};
-ghost use Rattle.loader.specs.Check.{nextOutcome};
-ghost use Rattle.loader.specs.Reserve.{listed, scanFrom, ScanReady, StoreReady};
-use crate::DeviceTreeError;
-use crate::Next;
-use crate::RESERVATION_WIDTH;
-use reader::Long;
-
-// How many bytes a reservation takes, its size after its offset.
-pub(crate) const ENTRY: usize = 16;
-
-const LENGTH_AT: usize = 8;
-
-// "Stopping yields the position after" the entry that ends the list.
-pub(crate) fn scan(b: &[u8], pos: usize) -> Next
-    requires { ⌜ ScanReady (now b) pos ⌝ }
-    ensures { λ r. ⌜ nextOutcome r ≡ scanFrom (now (b .entry)) pos ⌝ }
-{
-    let mut p = pos;
-    let end = loop {
-        let Long::Got(_) = reader::read_be_u64(b, p) else {
-            return Next::Refused(DeviceTreeError::UnexpectedEndOfInput);
-        };
-        let Long::Got(size) = reader::read_be_u64(b, p + LENGTH_AT) else {
-            return Next::Refused(DeviceTreeError::UnexpectedEndOfInput);
-        };
-        p += ENTRY;
-        if size == 0 {
-            break p;
-        }
-    };
-    Next::At(end)
-}
+ghost use Rattle.survey.specs.Reserve.{listed};
+ghost use Rattle.loader.specs.Store.{StoreReady};
+use format::RESERVATION_WIDTH;
+use survey::ENTRY;
+use survey::LENGTH_AT;
 
 // The rows of the reservations from pos on, which are known to be there.
 pub(crate) fn store(b: &[u8], pos: usize, table: &mut [u64])

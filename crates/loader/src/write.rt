@@ -10,22 +10,33 @@ ghost use Rattle.format.specs.Bytes as bytes;
 ghost use Rattle.format.specs.Format.{BEGIN-NODE, nodeWidth, propertyWidth};
 ghost use Rattle.format.specs.Format as format;
 ghost use Rattle.format.specs.Tree.{Property, Node};
-ghost use Rattle.loader.specs.Check.{block};
+ghost use Rattle.survey.specs.Nodes.{block};
 ghost use Rattle.loader.specs.Pass.{PropReady, propNumbers, PropsHere, PropsReady, propsState, propsAfter};
 ghost use Rattle.loader.specs.Pass.{HeadReady, firstAt, childRow, HeadDone, NodeHere, NodeReady, passed, nodeAfter};
-use crate::Block;
-use crate::NAME_AT;
-use crate::NODE_WIDTH;
-use crate::NONE;
-use crate::OFFSET_AT;
-use crate::PROPERTY_WIDTH;
-use crate::Passed;
-use crate::Props;
-use crate::SIZE_AT;
-use crate::TOKEN;
-use crate::VALUE_AT;
-use crate::check::aligned;
+use format::NODE_WIDTH;
+use format::NONE;
+use format::PROPERTY_WIDTH;
 use reader::Token;
+use survey::ALIGNED;
+use survey::Block;
+use survey::NAME_AT;
+use survey::OFFSET_AT;
+use survey::SIZE_AT;
+use survey::TOKEN;
+use survey::VALUE_AT;
+
+// What follows properties that were written, and the row after theirs.
+struct Props {
+    next: usize,
+    row: usize,
+}
+
+// What follows a node that was written, and the rows after its nodes' and its properties'.
+pub(crate) struct Passed {
+    next: usize,
+    row: usize,
+    prow: usize,
+}
 
 // The numbers of a row, in the table's order.
 struct NodeRow {
@@ -111,7 +122,7 @@ fn write_prop(b: &[u8], strings: Block, pos: usize, row: usize, props: &mut [u32
         (pos + VALUE_AT) as u32,
         size,
     );
-    aligned(pos + VALUE_AT + size as usize)
+    reader::aligned(pos + VALUE_AT + size as usize, ALIGNED)
 }
 
 // The rows of the properties from pos on.
@@ -146,7 +157,13 @@ fn write_head(
 {
     let name = pos + NAME_AT;
     let len = reader::string_len(b, name);
-    let own = write_props(b, strings, aligned(name + len + 1), prow, props);
+    let own = write_props(
+        b,
+        strings,
+        reader::aligned(name + len + 1, ALIGNED),
+        prow,
+        props,
+    );
     let next = own.next;
     let after = own.row;
     let child = child_row(reader::word_at(b, next), (row + 1) as u32);

@@ -63,6 +63,9 @@ pub align-determined : (val to : ℕ) (r s : Place)
     → placeNumbers r ≡ numbers itself (aligned val to) → placeNumbers s ≡ numbers itself (aligned val to) → r ≡ s
 align-determined val to r s h k = place-by-numbers r s (h ∙ sym k)
 
+pub aligned-determined : (val to : ℕ) (r s : ℕ) → r ≡ orZero (aligned val to) → s ≡ orZero (aligned val to) → r ≡ s
+aligned-determined val to r s h k = h ∙ sym k
+
 module _ (buf : List ℕ) (start end : ℕ) where
   pub subslice-determined : (r s : Span)
       → spanNumbers r ≡ numbers place (spanAt start (subslice buf start end)) → spanNumbers s ≡ numbers place (spanAt start (subslice buf start end)) → r ≡ s

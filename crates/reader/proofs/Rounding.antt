@@ -6,11 +6,12 @@ use Prim.Native.Nat.{ℕ, _+_, _^_, _≤_, _<_}
 use native.Mathlib.Omega.{arith}
 use native.Mathlib.Decide.{decLe}
 use borrow.Author.Tests.{lt-ltb, le-ltb, eq-eqb, ne-eqb}
-use Rattle.format.specs.Answer.{Refusal, ok, refused, unexpectedEndOfInput}
+use Rattle.format.specs.Answer.{Refusal, ok, refused, unexpectedEndOfInput, orZero}
 use Rattle.format.specs.Bytes.{align}
 use Rattle.format.specs.Read.{aligned}
 use Rattle.format.proofs.Answer.{never, ok-same, step, then-ok, then-refused, check-ok, check-no}
 use Rattle.format.proofs.Bytes.{align-near}
+use Rattle.reader.proofs.Outcomes.{or-zero}
 
 module _ (val to : ℕ) where
   pub aligned-none : to ≡ 0 → aligned val to ≡ refused unexpectedEndOfInput
@@ -41,3 +42,7 @@ module _ (val to : ℕ) where
 -- rounding up to a word
 pub aligned-4 : (val : ℕ) → val + 3 < 2 ^ 64 → aligned val 4 ≡ ok (align val 4)
 aligned-4 val h = aligned-there val 4 (λ e. omega arith) (omega (arith, align-near val))
+
+-- what `aligned` promises of a position, where the range does not end
+pub aligned-total : (val : ℕ) → val + 3 < 2 ^ 64 → orZero (aligned val 4) ≡ align val 4
+aligned-total val h = or-zero (aligned-4 val h)

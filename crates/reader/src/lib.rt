@@ -202,6 +202,16 @@ pub fn long_at(buf: &[u8], pos: usize) -> u64
     }
 }
 
+// `val` rounded up to a multiple of `to`, 0 where there is none in the range.
+pub fn aligned(val: usize, to: usize) -> usize
+    ensures { λ r. ⌜ r ≡ orZero (aligned val to) ⌝ }
+{
+    match align(val, to) {
+        Place::At(next) => next,
+        Place::Short => 0,
+    }
+}
+
 // The length of the string at pos, 0 where there is none.
 pub fn string_len(buf: &[u8], pos: usize) -> usize
     ensures { λ r. ⌜ r ≡ length (orEmpty (read-bstring0 (now (buf .entry)) pos)) ⌝ }

@@ -10,14 +10,16 @@ use Rattle.format.specs.Format.{reservationWidth, nodeWidth, propertyWidth, NON
 use Rattle.format.specs.Load.{capacity}
 use Rattle.format.specs.Rules.{ours}
 use Rattle.loader.specs.Pass.{passed}
-use Rattle.loader.specs.Survey.{lent, surveyOf, surveyOutcome}
+use Rattle.survey.specs.Outcomes.{surveyOutcome}
+use Rattle.survey.specs.Survey.{surveyOf}
+use Rattle.loader.specs.Numbers.{lent}
 use Rattle.loader.proofs.LoadLaws.{survey-refuses, no-reservation-room, no-node-room, no-property-room, stores-ready, writes-ready, loaded}
 use Rattle.loader.proofs.loading.load.Statement.{statement}
 use Rattle.loader.proofs.loading.load.Tie as tie
 
-isFound : (c : tie.After-found) → surveyOf (now (c .before .before .before .before .before .before .before .args .b)) ≡ ok (c .found .given .0 .0)
+isPlan : (c : tie.After-plan) → surveyOf (now (c .before .before .before .before .before .before .before .args .b)) ≡ ok (c .plan .given .0 .0)
 unfolding surveyOutcome
-isFound c = sym (c .before .before .survey .ensures) ∙ ap surveyOutcome (c .found .given .1)
+isPlan c = sym (c .before .before .survey .ensures) ∙ ap surveyOutcome (c .plan .given .1)
 
 returns : tie.Need-returns
 unfolding surveyOutcome
@@ -29,14 +31,14 @@ returns-2 : tie.Need-returns-2
 unfolding lent capacity reservationWidth
 returns-2 c =
     let f = c .before .before .before .before .before in
-    no-reservation-room _ _ _ (isFound f) (c .if1 .taken)
+    no-reservation-room _ _ _ (isPlan f) (c .if1 .taken)
 
 returns-3 : tie.Need-returns-3
 unfolding lent capacity reservationWidth nodeWidth
 returns-3 c =
     let e = c .before .before in
     let f = e .before .before .before .before .before in
-    no-node-room _ _ _ (isFound f) (e .if1 .left) (c .if2 .taken)
+    no-node-room _ _ _ (isPlan f) (e .if1 .left) (c .if2 .taken)
 
 returns-4 : tie.Need-returns-4
 unfolding lent capacity reservationWidth nodeWidth propertyWidth
@@ -44,7 +46,7 @@ returns-4 c =
     let e₂ = c .before .before in
     let e₁ = e₂ .before .before in
     let f = e₁ .before .before .before .before .before in
-    no-property-room _ _ _ (isFound f) (e₁ .if1 .left) (e₂ .if2 .left) (c .if3 .taken)
+    no-property-room _ _ _ (isPlan f) (e₁ .if1 .left) (e₂ .if2 .left) (c .if3 .taken)
 
 -- what is known once the room has been judged
 bytes : (c : tie.After-shared-slice-known) → AreBytes (now (c .before .args .b))
@@ -59,7 +61,7 @@ store-requires c κs =
     let e₁ = e₂ .before .before in
     let f = e₁ .before .before .before .before .before in
     let a = f .before .before .before .before .before .before .before .args in
-    stores-ready (lent (now (a .reserved)) (now (a .nodes)) (now (a .props))) _ _ (isFound f) (e₁ .if1 .left) (e₂ .if2 .left) (e₃ .if3 .left) (bytes (f .before .before .before .before .before .before))
+    stores-ready (lent (now (a .reserved)) (now (a .nodes)) (now (a .props))) _ _ (isPlan f) (e₁ .if1 .left) (e₂ .if2 .left) (e₃ .if3 .left) (bytes (f .before .before .before .before .before .before))
 
 write-node-requires : tie.Need-write-node-requires
 unfolding lent capacity reservationWidth nodeWidth propertyWidth ours
@@ -69,7 +71,7 @@ write-node-requires c κs =
     let e₁ = e₂ .before .before in
     let f = e₁ .before .before .before .before .before in
     let a = f .before .before .before .before .before .before .before .args in
-    writes-ready (lent (now (a .reserved)) (now (a .nodes)) (now (a .props))) _ _ (isFound f) (e₁ .if1 .left) (e₂ .if2 .left) (e₃ .if3 .left) (bytes (f .before .before .before .before .before .before))
+    writes-ready (lent (now (a .reserved)) (now (a .nodes)) (now (a .props))) _ _ (isPlan f) (e₁ .if1 .left) (e₂ .if2 .left) (e₃ .if3 .left) (bytes (f .before .before .before .before .before .before))
 
 returns-5 : tie.Need-returns-5
 unfolding lent capacity reservationWidth nodeWidth propertyWidth NONE passed
@@ -81,7 +83,7 @@ returns-5 c =
     let e₁ = e₂ .before .before in
     let f = e₁ .before .before .before .before .before in
     let a = f .before .before .before .before .before .before .before .args in
-    loaded (lent (now (a .reserved)) (now (a .nodes)) (now (a .props))) _ _ (isFound f) (e₁ .if1 .left) (e₂ .if2 .left) (e₃ .if3 .left) (bytes (f .before .before .before .before .before .before))
+    loaded (lent (now (a .reserved)) (now (a .nodes)) (now (a .props))) _ _ (isPlan f) (e₁ .if1 .left) (e₂ .if2 .left) (e₃ .if3 .left) (bytes (f .before .before .before .before .before .before))
     (s .store .ensures) (w .write-node .ensures)
 
 pub load-spec : {M : Type 1} → statement M

@@ -1,7 +1,7 @@
 -- `measure` meets its contract: what the survey found is what a load with unlimited room answers. Assumes nothing.
 use mathlib.Core.Path.{sym, ap, _∙_}
 use borrow.Author.Needs.{needs}
-use Rattle.loader.specs.Survey.{surveyOutcome}
+use Rattle.survey.specs.Outcomes.{surveyOutcome}
 use Rattle.loader.proofs.LoadLaws.{measured, not-measured}
 use Rattle.loader.proofs.loading.measure.Statement.{statement}
 use Rattle.loader.proofs.loading.measure.Tie as tie
@@ -10,7 +10,7 @@ returns : tie.Need-returns
 unfolding surveyOutcome
 returns c =
     let s = c .before .before .before .before in
-    measured _ _ (sym (s .survey .ensures) ∙ ap surveyOutcome (c .before .before .found .given .1))
+    measured _ _ (sym (s .survey .ensures) ∙ ap surveyOutcome (c .before .before .plan .given .1))
 
 returns-2 : tie.Need-returns-2
 unfolding surveyOutcome

@@ -4,7 +4,7 @@ use borrow.Author.Needs.{needs}
 use Prim.Native.Nat.{_+_, _-_, _≤_}
 use native.Mathlib.Omega.{arith}
 use lib.ListN.{length, length-set}
-use Rattle.loader.proofs.ReserveLaws.{StoreLeft, store-start, store-inside, store-room, store-last, store-again}
+use Rattle.loader.proofs.StoreLaws.{StoreLeft, store-start, store-inside, store-room, store-last, store-again}
 use Rattle.loader.proofs.reserve.store.Statement.{statement}
 use Rattle.loader.proofs.reserve.store.Tie as tie
 

@@ -8,7 +8,7 @@ use borrow.Fn.Kinds.{In}
 use borrow.Fn.PlainCycle.{Measures, is, falls, and}
 use Rattle.format.specs.Format.{BEGIN-NODE}
 use Rattle.reader.proofs.word_at.Reads as word-at
-use Rattle.loader.specs.Check.{block}
+use Rattle.survey.specs.Nodes.{block}
 use Rattle.loader.specs.Pass.{passed}
 use Rattle.loader.proofs.ChildLaws.{NodesInv, node-few, node-head, node-start, node-end, node-nodes, node-props}
 use Rattle.loader.proofs.ChildLaws.{turn-inside, child-ready, child-few, child-room, child-less, child-again}

@@ -3,7 +3,7 @@ use mathlib.Core.Path.{sym}
 use native.Mathlib.Omega.{arith}
 use lib.Seq.{length-take-le}
 use borrow.Author.Needs.{needs}
-use Rattle.loader.specs.Check.{block}
+use Rattle.survey.specs.Nodes.{block}
 use Rattle.loader.proofs.PropLaws.{prop-name, prop-length, prop-next, prop-stored}
 use Rattle.loader.proofs.write.write_prop.Statement.{statement}
 use Rattle.loader.proofs.write.write_prop.Tie as tie

@@ -6,7 +6,7 @@ use native.Mathlib.Omega.{arith}
 use lib.ListN.{length}
 use borrow.Author.Needs.{needs}
 use Rattle.format.specs.Format.{PROP}
-use Rattle.loader.specs.Check.{block}
+use Rattle.survey.specs.Nodes.{block}
 use Rattle.loader.specs.Pass.{propsState}
 use Rattle.loader.proofs.PropLaws.{PropsInv, props-start, props-ready, props-few, props-less, props-again, props-long, props-end}
 use Rattle.loader.proofs.write.write_props.Statement.{statement}
