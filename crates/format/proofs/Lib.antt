@@ -22,3 +22,4 @@ pub mod Cases
 pub mod Find
 pub mod Names
 pub mod Usable
+pub mod Inside

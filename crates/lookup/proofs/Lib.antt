@@ -5,4 +5,3 @@ mod RowLaws
 mod NameLaws
 mod PathLaws
 mod PropertyLaws
-mod ValueLaws

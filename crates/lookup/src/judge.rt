@@ -11,9 +11,9 @@ ghost use Rattle.format.specs.Format.{NONE as none, nodeWidth, propertyWidth};
 ghost use Rattle.format.specs.Rows as rows;
 ghost use Rattle.format.specs.Lookup.{linkGood, linksGood, nameInside};
 ghost use Rattle.lookup.specs.Places.{IsNode, IsProperty, nodeAt, propertyAt};
-use loader::NODE_WIDTH;
-use loader::NONE;
-use loader::PROPERTY_WIDTH;
+use format::NODE_WIDTH;
+use format::NONE;
+use format::PROPERTY_WIDTH;
 use std::num::wrapping_add_u32;
 
 // The numbers of a node row that a lookup reads.

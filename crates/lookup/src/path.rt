@@ -15,8 +15,8 @@ use crate::judge::node_at;
 use crate::judge::row_is_good;
 use crate::names::name_end;
 use crate::names::same_part;
-use loader::NODE_WIDTH;
-use loader::NONE;
+use format::NODE_WIDTH;
+use format::NONE;
 
 // A child that was found: its row, and the link to its own first child.
 enum Child {

@@ -16,7 +16,7 @@ use crate::OFFSET_AT;
 use crate::SIZE_AT;
 use crate::TOKEN;
 use crate::VALUE_AT;
-use reader::Checked;
+use utf8::Checked;
 use reader::Read;
 use reader::Span;
 use reader::Token;
@@ -79,7 +79,7 @@ fn check_prop(b: &[u8], strings: Block, pos: usize) -> Next
     let Span::Part { start: _, len } = reader::read_bstring0(names, name) else {
         return Next::Refused(DeviceTreeError::UnexpectedEndOfInput);
     };
-    match reader::from_utf8(&names[name..name + len]) {
+    match utf8::from_utf8(&names[name..name + len]) {
         Checked::Utf8 => Next::At(reader::aligned(val_end, ALIGNED)),
         Checked::NotUtf8 => Next::Refused(DeviceTreeError::Utf8Error),
     }
@@ -150,7 +150,7 @@ fn check_end(b: &[u8], start: usize, len: usize, pos: usize) -> Next
     if token.number != Token::END_NODE {
         return Next::Refused(DeviceTreeError::ParseError(pos));
     }
-    match reader::from_utf8(&b[start..start + len]) {
+    match utf8::from_utf8(&b[start..start + len]) {
         Checked::Utf8 => Next::At(pos + TOKEN),
         Checked::NotUtf8 => Next::Refused(DeviceTreeError::Utf8Error),
     }

@@ -5,7 +5,7 @@ use borrow.Author.Needs.{needs}
 use denote.Ref.{now}
 use lib.ListN.{length}
 use Rattle.lookup.proofs.Outcomes.{value-part, value-nothing, value-unusable}
-use Rattle.lookup.proofs.ValueLaws.{raw-inside, bytes-there, bytes-none}
+use Rattle.format.proofs.Inside.{raw-inside, bytes-there, bytes-none}
 use Rattle.lookup.proofs.property.prop_raw_part.Statement.{statement}
 use Rattle.lookup.proofs.property.prop_raw_part.Tie as tie
 

@@ -6,7 +6,8 @@ use denote.Ref.{now}
 use Rattle.format.specs.Answer.{ok}
 use Rattle.format.specs.Read.{read-be-u32}
 use Rattle.format.proofs.Read.{read-inside}
-use Rattle.reader.proofs.Outcomes.{token-got, token-short, checked-good, checked-bad}
+use Rattle.reader.proofs.Outcomes.{token-got, token-short}
+use Rattle.utf8.proofs.Outcomes.{checked-good, checked-bad}
 use Rattle.survey.specs.Outcomes.{nextOutcome, whyOf}
 use Rattle.survey.proofs.CountLaws.{end-past, end-other, end-bad-name, end-good}
 use Rattle.survey.proofs.nodes.check_end.Statement.{statement}

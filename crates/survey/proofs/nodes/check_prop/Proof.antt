@@ -8,7 +8,8 @@ use lib.Seq.{length-take-le}
 use denote.Ref.{now}
 use Rattle.format.specs.Answer.{ok}
 use Rattle.format.specs.Read.{read-be-u32, read-bstring0, subslice}
-use Rattle.reader.proofs.Outcomes.{word-got, word-short, checked-good, checked-bad}
+use Rattle.reader.proofs.Outcomes.{word-got, word-short}
+use Rattle.utf8.proofs.Outcomes.{checked-good, checked-bad}
 use Rattle.reader.proofs.Parts.{Told, span-part, span-none}
 use Rattle.survey.specs.Outcomes.{nextOutcome, whyOf}
 use Rattle.survey.proofs.CountLaws.{told-inside, prop-no-size, prop-no-offset, prop-no-value, prop-no-name, prop-bad-name, prop-good}

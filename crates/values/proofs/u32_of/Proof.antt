@@ -1,10 +1,10 @@
 -- `u32_of` meets its contract: the reader's number, or 13 where it has none. Assumes nothing.
 use borrow.Author.Needs.{needs}
 use Rattle.reader.proofs.Outcomes.{word-got, word-short}
-use Rattle.lookup.specs.Answers.{number32Outcome, whyOf}
-use Rattle.lookup.proofs.ValueLaws.{number-got, number-not}
-use Rattle.lookup.proofs.property.u32_of.Statement.{statement}
-use Rattle.lookup.proofs.property.u32_of.Tie as tie
+use Rattle.values.specs.Answers.{number32Outcome, whyOf}
+use Rattle.values.proofs.ValueLaws.{number-got, number-not}
+use Rattle.values.proofs.u32_of.Statement.{statement}
+use Rattle.values.proofs.u32_of.Tie as tie
 
 returns : tie.Need-returns
 unfolding number32Outcome

@@ -7,13 +7,15 @@ use denote.Ref.{now}
 use lib.ListN.{length}
 use Rattle.format.specs.Lookup.{prop-str}
 use Rattle.format.proofs.Answer.{then-refused}
-use Rattle.lookup.specs.Answers.{textOutcome, whyOf}
-use Rattle.lookup.specs.declared.PropError.the-variants as why
-use Rattle.lookup.specs.declared.Text.the-variants.{Refused}
-use Rattle.lookup.proofs.Outcomes.{text-promise, value-part, value-nothing, value-unusable}
-use Rattle.lookup.proofs.ValueLaws.{raw-inside, text-of}
-use Rattle.lookup.proofs.property.prop_str.Statement.{statement}
-use Rattle.lookup.proofs.property.prop_str.Tie as tie
+use Rattle.values.specs.Answers.{textOutcome, whyOf}
+use Rattle.values.specs.declared.PropError.the-variants as why
+use Rattle.values.specs.declared.Text.the-variants.{Refused}
+use Rattle.lookup.proofs.Outcomes.{value-part, value-nothing, value-unusable}
+use Rattle.values.proofs.Outcomes.{text-promise}
+use Rattle.format.proofs.Inside.{raw-inside}
+use Rattle.values.proofs.ValueLaws.{text-of}
+use Rattle.values.proofs.prop_str.Statement.{statement}
+use Rattle.values.proofs.prop_str.Tie as tie
 
 add-text-of : tie.Need-add-text-of
 add-text-of c =

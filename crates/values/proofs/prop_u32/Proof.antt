@@ -7,13 +7,15 @@ use denote.Ref.{now}
 use lib.ListN.{length}
 use Rattle.format.specs.Lookup.{prop-u32}
 use Rattle.format.proofs.Answer.{then-refused}
-use Rattle.lookup.specs.Answers.{number32Outcome, whyOf}
-use Rattle.lookup.specs.declared.PropError.the-variants as why
-use Rattle.lookup.specs.declared.Number32.the-variants.{Refused}
-use Rattle.lookup.proofs.Outcomes.{number32-promise, value-part, value-nothing, value-unusable}
-use Rattle.lookup.proofs.ValueLaws.{raw-inside, number-of}
-use Rattle.lookup.proofs.property.prop_u32.Statement.{statement}
-use Rattle.lookup.proofs.property.prop_u32.Tie as tie
+use Rattle.values.specs.Answers.{number32Outcome, whyOf}
+use Rattle.values.specs.declared.PropError.the-variants as why
+use Rattle.values.specs.declared.Number32.the-variants.{Refused}
+use Rattle.lookup.proofs.Outcomes.{value-part, value-nothing, value-unusable}
+use Rattle.values.proofs.Outcomes.{number32-promise}
+use Rattle.format.proofs.Inside.{raw-inside}
+use Rattle.values.proofs.ValueLaws.{number-of}
+use Rattle.values.proofs.prop_u32.Statement.{statement}
+use Rattle.values.proofs.prop_u32.Tie as tie
 
 add-u32-of : tie.Need-add-u32-of
 add-u32-of c =

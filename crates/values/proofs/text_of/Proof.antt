@@ -4,11 +4,11 @@ use borrow.Author.Needs.{needs}
 use native.Mathlib.Omega.{arith}
 use Prim.Native.Nat.{_-_}
 use lib.ListN.{length}
-use Rattle.reader.proofs.Outcomes.{checked-good, checked-bad}
-use Rattle.lookup.specs.Answers.{textOutcome, whyOf}
-use Rattle.lookup.proofs.ValueLaws.{text-empty, text-open, text-bad, text-good}
-use Rattle.lookup.proofs.property.text_of.Statement.{statement}
-use Rattle.lookup.proofs.property.text_of.Tie as tie
+use Rattle.utf8.proofs.Outcomes.{checked-good, checked-bad}
+use Rattle.values.specs.Answers.{textOutcome, whyOf}
+use Rattle.values.proofs.ValueLaws.{text-empty, text-open, text-bad, text-good}
+use Rattle.values.proofs.text_of.Statement.{statement}
+use Rattle.values.proofs.text_of.Tie as tie
 
 returns : tie.Need-returns
 unfolding textOutcome whyOf

@@ -1,63 +1,22 @@
--- What is made of a value: where it lies, and what its readers say, by cases. Assumes nothing.
+-- What is made of a value: what its readers say, by cases. Assumes nothing.
 use mathlib.Core.Path.{_≡_, refl, sym, _∙_}
 use mathlib.Core.Logic.{_≢_}
-use Prim.Native.Nat.{ℕ, zero, suc, _+_, _-_, _≤_, _<_}
+use Prim.Native.Nat.{ℕ, _+_, _-_, _≤_, _<_}
 use native.Mathlib.Omega.{arith}
-use mathlib.Core.List.{List, []}
+use mathlib.Core.List.{List}
 use mathlib.Core.Bool.{true}
-use lib.Dec.{leb}
-use lib.ListN.{length, take, drop, getD, length-take}
+use lib.ListN.{length, take, drop, getD}
 use lib.Seq.{length-take-le}
-use borrow.Author.Tests.{le-leb, lt-leb, eq-eqb, ne-eqb, leb-true}
-use Rattle.format.specs.Answer.{Refusal, Outcome, ok, refused, _>>=_, Span, orEmpty, unexpectedEndOfInput, utf8Error, missing0, tooShort}
+use borrow.Author.Tests.{le-leb, lt-leb, eq-eqb, ne-eqb}
+use Rattle.format.specs.Answer.{Outcome, ok, refused, _>>=_, Span, unexpectedEndOfInput, utf8Error, missing0, tooShort}
 use Rattle.format.specs.Bytes.{part, number, valueAt}
 use Rattle.format.specs.Read.{read-be, utf8Check}
-use Rattle.format.specs.Rows.{PropertyRow, propertyAt, propertiesIn}
 use Rattle.format.specs.Find.{asNumber, ends0, asString}
-use Rattle.format.specs.Lookup.{Lent, bytesOf, partsInside, valueSpan, among, propertyOf, prop-raw, prop-str}
-use Rattle.format.specs.Agrees.{bytesIn}
-use Rattle.format.proofs.Tools.{split, both, if-went}
-use Rattle.format.proofs.Answer.{never, ok-same, step, then-ok, then-refused, check-ok, check-no}
+use Rattle.format.specs.Lookup.{bytesOf}
+use Rattle.format.proofs.Tools.{split}
+use Rattle.format.proofs.Answer.{never, then-ok, then-refused, check-ok, check-no}
 use Rattle.format.proofs.Read.{read-there, read-past-end}
-use Rattle.lookup.specs.Answers.{textAt}
-
--- ---- where a value and its text lie
-
-among-inside : (b : List ℕ) (P : List PropertyRow) (n k : ℕ) (name : List ℕ) (s : Span) → among b P n k name ≡ ok s → s .offset + s .size ≤ length b
-unfolding among partsInside valueSpan
-among-inside b P zero k name s e = absurd (never e)
-among-inside b P (suc n) k name s e =
-    if-went _ _ _ e
-    (λ inside e. if-went _ _ _ e
-    (λ _ e. let is = ok-same e in rw (← is) (leb-true _ _ (both (leb (propertyAt P k .nameOffset + propertyAt P k .nameLength) (length b)) (leb (propertyAt P k .valueOffset + propertyAt P k .valueLength) (length b)) inside .1)))
-    (λ _ e. among-inside b P n (k + 1) name s e))
-    (λ _ e. absurd (never e))
-
-module _ (b : List ℕ) (l : Lent) (row : ℕ) (name : List ℕ) where
-  pub raw-inside : (s : Span) → prop-raw b l row name ≡ ok s → s .offset + s .size ≤ length b
-  unfolding prop-raw propertyOf
-  raw-inside s e = step _ _ e λ _ _ e. step _ _ e λ _ _ e. among-inside b (propertiesIn (l .propertyCount) (l .properties)) _ _ name s e
-
-  pub str-inside : (s : Span) → prop-str b l row name ≡ ok s → s .offset + s .size ≤ length b
-  unfolding prop-str asString bytesOf part
-  str-inside s e =
-      step _ _ e λ value raw e.
-      step _ _ e λ text is e.
-      step _ _ is λ _ _ is.
-      step _ _ is λ _ _ is.
-      let v : List ℕ = take (value .size) (drop (value .offset) b) in
-      let short : length v ≤ value .size = omega (arith, length-take (value .size) (drop (value .offset) b)) in
-      let size : length text ≤ length v = rw (← ok-same is) (omega (arith, length-take (length v - 1) v)) in
-      rw (← ok-same e) (omega (arith, raw-inside value raw))
-
--- the part that a span is of the blob, and none where there is no span
-pub bytes-there : (b : List ℕ) {m : Outcome Span} {p n : ℕ} → m ≡ ok (record { offset = p; size = n }) → (k : ℕ) → k ≡ n → take k (drop p b) ≡ orEmpty (bytesIn b m)
-unfolding orEmpty bytesIn _>>=_ bytesOf part
-bytes-there b e k i = rw (e, i)
-
-pub bytes-none : (b : List ℕ) {m : Outcome Span} {r : Refusal} → m ≡ refused r → [] ≡ orEmpty (bytesIn b m)
-unfolding orEmpty bytesIn _>>=_
-bytes-none b e = rw e
+use Rattle.values.specs.Answers.{textAt}
 
 -- ---- numbers, at every width
 

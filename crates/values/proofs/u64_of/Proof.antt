@@ -1,10 +1,10 @@
 -- `u64_of` meets its contract: the reader's number, or 13 where it has none. Assumes nothing.
 use borrow.Author.Needs.{needs}
 use Rattle.reader.proofs.Outcomes.{long-got, long-short}
-use Rattle.lookup.specs.Answers.{number64Outcome, whyOf}
-use Rattle.lookup.proofs.ValueLaws.{number-got, number-not}
-use Rattle.lookup.proofs.property.u64_of.Statement.{statement}
-use Rattle.lookup.proofs.property.u64_of.Tie as tie
+use Rattle.values.specs.Answers.{number64Outcome, whyOf}
+use Rattle.values.proofs.ValueLaws.{number-got, number-not}
+use Rattle.values.proofs.u64_of.Statement.{statement}
+use Rattle.values.proofs.u64_of.Tie as tie
 
 returns : tie.Need-returns
 unfolding number64Outcome

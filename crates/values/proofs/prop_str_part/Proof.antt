@@ -4,10 +4,10 @@ use native.Mathlib.Omega.{arith}
 use borrow.Author.Needs.{needs}
 use denote.Ref.{now}
 use lib.ListN.{length}
-use Rattle.lookup.proofs.Outcomes.{text-part, text-refused}
-use Rattle.lookup.proofs.ValueLaws.{str-inside, bytes-there, bytes-none}
-use Rattle.lookup.proofs.property.prop_str_part.Statement.{statement}
-use Rattle.lookup.proofs.property.prop_str_part.Tie as tie
+use Rattle.values.proofs.Outcomes.{text-part, text-refused}
+use Rattle.format.proofs.Inside.{str-inside, bytes-there, bytes-none}
+use Rattle.values.proofs.prop_str_part.Statement.{statement}
+use Rattle.values.proofs.prop_str_part.Tie as tie
 
 add-result : tie.Need-add-result
 add-result c =
