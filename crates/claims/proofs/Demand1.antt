@@ -11,9 +11,9 @@ use Rattle.format.specs.Load.{Tables, treeNumbers, Loads}
 use Rattle.format.specs.Load as load
 use Rattle.format.proofs.Answer.{refusal-not-0}
 use Rattle.format.proofs.Load as laws
-use Rattle.loader.specs.Check.{whyOf}
-use Rattle.loader.specs.Survey.{loadedNumbers}
-use Rattle.loader.specs.declared.DeviceTreeError.{DeviceTreeError}
+use Rattle.survey.specs.Outcomes.{whyOf}
+use Rattle.loader.specs.Numbers.{loadedNumbers}
+use Rattle.survey.specs.declared.DeviceTreeError.{DeviceTreeError}
 use Rattle.loader.specs.declared.Loaded.the-variants.{Refused}
 
 -- an answer of refusal numbers is a refusal

@@ -17,10 +17,10 @@ use Rattle.format.proofs.Answer.{refusal-not-0, numbers-refused}
 use Rattle.format.proofs.Complete as complete
 use Rattle.format.proofs.Original as origin
 use Rattle.format.proofs.Load as laws
-use Rattle.loader.specs.Check.{whyOf}
-use Rattle.loader.specs.Survey.{loadedNumbers}
-use Rattle.loader.specs.declared.DeviceTreeError.{DeviceTreeError}
-use Rattle.loader.specs.declared.DeviceTree.{DeviceTree}
+use Rattle.survey.specs.Outcomes.{whyOf}
+use Rattle.loader.specs.Numbers.{loadedNumbers}
+use Rattle.survey.specs.declared.DeviceTreeError.{DeviceTreeError}
+use Rattle.survey.specs.declared.DeviceTree.{DeviceTree}
 use Rattle.loader.specs.declared.Loaded.{Loaded}
 use Rattle.loader.specs.declared.Loaded.the-variants.{Refused}
 use Rattle.loader.specs.declared.Loaded.the-variants as loaded

@@ -9,17 +9,19 @@ use Rattle.format.specs.Lookup as table
 use Rattle.format.specs.Lookup.{Lent}
 use Rattle.format.specs.Agrees.{bytesIn}
 use Rattle.format.proofs.Load as laws
-use Rattle.loader.specs.Survey.{loadedNumbers}
+use Rattle.loader.specs.Numbers.{loadedNumbers}
 use Rattle.loader.specs.declared.Loaded.{Loaded}
 use Rattle.loader.proofs.Numbered.{loaded-same}
-use Rattle.lookup.specs.Answers.{foundNumbers, hasNumbers, valueNumbers, textNumbers, number32Numbers, number64Numbers}
+use Rattle.lookup.specs.Answers.{foundNumbers, hasNumbers, valueNumbers}
+use Rattle.values.specs.Answers.{textNumbers, number32Numbers, number64Numbers}
 use Rattle.lookup.specs.declared.Found.{Found}
 use Rattle.lookup.specs.declared.Has.{Has}
 use Rattle.lookup.specs.declared.Value.{Value}
-use Rattle.lookup.specs.declared.Text.{Text}
-use Rattle.lookup.specs.declared.Number32.{Number32}
-use Rattle.lookup.specs.declared.Number64.{Number64}
+use Rattle.values.specs.declared.Text.{Text}
+use Rattle.values.specs.declared.Number32.{Number32}
+use Rattle.values.specs.declared.Number64.{Number64}
 use Rattle.lookup.proofs.Determined as lookups
+use Rattle.values.proofs.Determined as values
 
 pub load-determined : {lent left left′ : Tables} {b : List ℕ} (r s : Loaded) → Loads lent b (loadedNumbers r) left → Loads lent b (loadedNumbers s) left′
     → (r ≡ s) × (left ≡ left′)
@@ -54,13 +56,13 @@ module _ (b : List ℕ) (l : Lent) (row : ℕ) (name : List ℕ) where
   prop-raw-part-determined = lookups.prop-raw-part-determined b l row name
 
   pub prop-str-determined : (r s : Text) → textNumbers r ≡ numbers place (table.prop-str b l row name) → textNumbers s ≡ numbers place (table.prop-str b l row name) → r ≡ s
-  prop-str-determined = lookups.prop-str-determined b l row name
+  prop-str-determined = values.prop-str-determined b l row name
 
   pub prop-str-part-determined : (r s : List ℕ) → r ≡ orEmpty (bytesIn b (table.prop-str b l row name)) → s ≡ orEmpty (bytesIn b (table.prop-str b l row name)) → r ≡ s
-  prop-str-part-determined = lookups.prop-str-part-determined b l row name
+  prop-str-part-determined = values.prop-str-part-determined b l row name
 
   pub prop-u32-determined : (r s : Number32) → number32Numbers r ≡ numbers itself (table.prop-u32 b l row name) → number32Numbers s ≡ numbers itself (table.prop-u32 b l row name) → r ≡ s
-  prop-u32-determined = lookups.prop-u32-determined b l row name
+  prop-u32-determined = values.prop-u32-determined b l row name
 
   pub prop-u64-determined : (r s : Number64) → number64Numbers r ≡ numbers itself (table.prop-u64 b l row name) → number64Numbers s ≡ numbers itself (table.prop-u64 b l row name) → r ≡ s
-  prop-u64-determined = lookups.prop-u64-determined b l row name
+  prop-u64-determined = values.prop-u64-determined b l row name

@@ -23,14 +23,16 @@ use Rattle.format.proofs.Names.{bad-path-in-tables, bad-tree-path-in-tables, ba
 use Rattle.format.proofs.Reached.{path-compares-once}
 use Rattle.format.proofs.Usable.{not-15, row-usable, bytes-usable, bytes-refused, from-usable, find-usable, raw-usable, has-usable, str-usable, u32-usable, u64-usable}
 use Rattle.format.proofs.Tables as tables
-use Rattle.lookup.specs.Answers.{foundNumbers, hasNumbers, valueNumbers, valueOutcome, textNumbers, textOutcome, number32Numbers, number64Numbers}
+use Rattle.lookup.specs.Answers.{foundNumbers, hasNumbers, valueNumbers, valueOutcome}
+use Rattle.values.specs.Answers.{textNumbers, textOutcome, number32Numbers, number64Numbers}
 use Rattle.lookup.specs.declared.Found.{Found}
 use Rattle.lookup.specs.declared.Has.{Has}
 use Rattle.lookup.specs.declared.Value.{Value}
-use Rattle.lookup.specs.declared.Text.{Text}
-use Rattle.lookup.specs.declared.Number32.{Number32}
-use Rattle.lookup.specs.declared.Number64.{Number64}
-use Rattle.lookup.proofs.Outcomes.{value-outcome, text-outcome}
+use Rattle.values.specs.declared.Text.{Text}
+use Rattle.values.specs.declared.Number32.{Number32}
+use Rattle.values.specs.declared.Number64.{Number64}
+use Rattle.lookup.proofs.Outcomes.{value-outcome}
+use Rattle.values.proofs.Outcomes.{text-outcome}
 
 -- what a load that accepted b as t left in its tables, and what a property lookup is then lent
 abbrev pub left : Tables → List ℕ → Tree → Tables

@@ -16,11 +16,11 @@ use crate::OFFSET_AT;
 use crate::SIZE_AT;
 use crate::TOKEN;
 use crate::VALUE_AT;
-use utf8::Checked;
 use reader::Read;
 use reader::Span;
 use reader::Token;
 use reader::Word;
+use utf8::Checked;
 
 // What follows properties, and how many there are.
 struct Props {

@@ -8,9 +8,9 @@ ghost use Rattle.lookup.specs.Answers.{lent};
 ghost use Rattle.values.specs.Answers.{textNumbers, textOutcome, textAt, number32Numbers, number32Outcome, number64Numbers, number64Outcome};
 use lookup::Value;
 use lookup::prop_raw;
-use utf8::Checked;
 use reader::Long;
 use reader::Word;
+use utf8::Checked;
 
 // Why a value is not read: the Rust's reasons, and rows that cannot be used.
 pub enum PropError {

@@ -1,11 +1,12 @@
 -- `dangrisuk_subslice` meets its contract: the numbers of the call behind it. Assumes nothing.
-use Rattle.capi.proofs.Puts.{told}
+use mathlib.Core.Path.{_∙_}
+use Rattle.capi.proofs.Told.{told}
 use borrow.Author.Needs.{needs}
 use Rattle.capi.proofs.readers.dangrisuk_subslice.Statement.{statement}
 use Rattle.capi.proofs.readers.dangrisuk_subslice.Tie as tie
 
 returns : tie.Need-returns
-returns c = told _ _ (c .before .before .put-span .ensures) (c .before .before .before .before .subslice .ensures)
+returns c = told _ _ _ (c .before .before .put .ensures) (c .before .before .before .before .of-span .ensures ∙ c .before .before .before .before .before .subslice .ensures)
 
 pub dangrisuk-subslice-spec : {M : Type 1} → statement M
-dangrisuk-subslice-spec = tie.close (tie.spec (λ c κs. search needs) (λ c κs. search needs) (λ c. search needs) returns)
+dangrisuk-subslice-spec = tie.close (tie.spec (λ c κs. search needs) (λ c κs. search needs) (λ c κs. search needs) (λ c. search needs) returns)
