@@ -1,32 +1,27 @@
 -- What the survey found is what a load answers, and the stores may begin; and what the stores leave is what a load is to leave.
 -- Assumes, where it is named, that the blob's elements are bytes.
 use mathlib.Core.Path.{_≡_, refl, sym, ap, ap₂, _∙_, subst}
-use Prim.Native.Nat.{ℕ, _+_, _-_, _*_, _/_, _≤_, _<_, _^_}
+use Prim.Native.Nat.{ℕ, _≤_, _<_, _^_}
 use native.Mathlib.Omega.{arith}
 use native.Mathlib.Nat.{zero-add}
-use mathlib.Core.List.{List, [], _∷_}
+use mathlib.Core.List.{List, _∷_}
 use lib.ListN.{length}
 use lib.Seq.{sets}
-use lib.Dec.{leb}
 use borrow.Author.Tests.{le-leb, lt-leb}
-use Rattle.format.specs.Answer.{Refusal, refusalNumbers, Outcome, ok, refused, _>>=_, numbers, reservationRoom, nodeRoom, propertyRoom}
-use Rattle.format.specs.Bytes.{AreBytes, wordAt}
+use Rattle.format.specs.Answer.{Outcome, ok, refused, numbers, reservationRoom, nodeRoom, propertyRoom}
+use Rattle.format.specs.Bytes.{AreBytes}
 use Rattle.format.specs.Format as format
-use Rattle.format.specs.Format.{version, reservationWidth, nodeWidth, propertyWidth, structureAt, stringsAt}
-use Rattle.format.specs.Tree.{Node, Reservation, Tree, depth, nodeCount, propertyCount}
+use Rattle.format.specs.Format.{reservationWidth, nodeWidth, propertyWidth}
+use Rattle.format.specs.Tree.{Node, Reservation, Tree}
 use Rattle.format.specs.Rules.{ours}
 use Rattle.format.specs.Encodes.{NodeAt}
 use Rattle.format.specs.Encodes as encodes
 use Rattle.format.specs.Rows.{reservationNumbers, nodeNumbers, propertyNumbers, nodeRows, nodeProperties, rows}
-use Rattle.format.specs.Read as read
 use Rattle.format.specs.Load.{Tables, treeNumbers, capacity, room, tablesAfter, Loads, Measures, Accepted}
 use Rattle.format.specs.Load as load
-use Rattle.format.proofs.Answer.{ok-same, refused-same, ok-then, step, then-ok, then-refused, then-then, never, check-ok, check-no}
-use Rattle.format.proofs.Read.{read-there, read-inside}
+use Rattle.format.proofs.Answer.{then-ok, then-refused, check-ok, check-no}
 use Rattle.format.proofs.Load.{capacity-fits, accepted}
 use Rattle.format.proofs.Sizes.{counts-fit, length-small, structure-is, strings-is}
-use Rattle.format.proofs.Sound.{sound}
-use Rattle.format.proofs.Complete.{only-tree}
 use Rattle.survey.specs.Nodes.{block}
 use Rattle.survey.specs.Outcomes.{whyOf}
 use Rattle.survey.specs.Reserve.{listed}
@@ -75,25 +70,22 @@ unfolding load.load
 survey-refuses t b why e = refusal t b why (then-refused _ _ (survey-refused b (whyOf why) e))
 
 module _ (t : Tables) (b : List ℕ) (v : Plan) (e : surveyOf b ≡ ok v) where
+  -- the tree that was found
   found : Finds b v
   found = survey-finds b v e
 
-  -- the tree that was found
-  pub tree : Tree
-  tree = found .tree
-
-  roomed : {m : Outcome Tree} → room t tree ≡ m → load.load t b ≡ m
-  unfolding load.load tree
+  roomed : {m : Outcome Tree} → room t (found .tree) ≡ m → load.load t b ≡ m
+  unfolding load.load
   roomed h = then-ok _ _ (found .loads) h
 
   pub no-reservation-room : capacity reservationWidth (t .reservations) < v .tree .reserved → Loads t b (loadedNumbers (LoadedRefused (ReservationRoom (v .tree .reserved)))) t
-  unfolding room whyOf tree
+  unfolding room whyOf
   no-reservation-room h =
       refusal t b _ (roomed (then-refused _ _ (check-no _ (lt-leb _ _ (rw (found .reserved) at h)))) ∙ ap (λ n. refused (reservationRoom n)) (sym (found .reserved)))
 
   module _ (r : v .tree .reserved ≤ capacity reservationWidth (t .reservations)) where
     pub no-node-room : capacity nodeWidth (t .nodes) < v .tree .nodes → Loads t b (loadedNumbers (LoadedRefused (NodeRoom (v .tree .nodes)))) t
-    unfolding room whyOf tree
+    unfolding room whyOf
     no-node-room h =
         refusal t b _
         (roomed (then-ok _ _ (check-ok _ (le-leb _ _ (rw (found .reserved) at r))) (then-refused _ _ (check-no _ (lt-leb _ _ (rw (found .nodes) at h)))))
@@ -101,72 +93,87 @@ module _ (t : Tables) (b : List ℕ) (v : Plan) (e : surveyOf b ≡ ok v) where
 
     module _ (n : v .tree .nodes ≤ capacity nodeWidth (t .nodes)) where
       pub no-property-room : capacity propertyWidth (t .properties) < v .tree .props → Loads t b (loadedNumbers (LoadedRefused (PropertyRoom (v .tree .props)))) t
-      unfolding room whyOf tree
+      unfolding room whyOf
       no-property-room h =
           refusal t b _
           (roomed (then-ok _ _ (check-ok _ (le-leb _ _ (rw (found .reserved) at r))) (then-ok _ _ (check-ok _ (le-leb _ _ (rw (found .nodes) at n))) (then-refused _ _ (check-no _ (lt-leb _ _ (rw (found .props) at h))))))
           ∙ ap (λ n. refused (propertyRoom n)) (sym (found .props)))
 
-      -- ---- load: what is found is stored
-      module _ (p : v .tree .props ≤ capacity propertyWidth (t .properties)) (all : AreBytes b) where
-        accepts : load.load t b ≡ ok tree
-        unfolding room tree
-        accepts =
-            roomed (then-ok _ _ (check-ok _ (le-leb _ _ (rw (found .reserved) at r)))
-            (then-ok _ _ (check-ok _ (le-leb _ _ (rw (found .nodes) at n))) (then-ok _ _ (check-ok _ (le-leb _ _ (rw (found .props) at p))) refl)))
+-- ---- load: what is found is stored
 
-        fine : Accepted t b tree
-        fine = accepted t b all tree .0 accepts
+-- what is known once the room has been judged
+pub record Passes (t : Tables) (b : List ℕ) (v : Plan) : Type 0 where
+  pub survey : surveyOf b ≡ ok v
+  pub reserved : v .tree .reserved ≤ capacity reservationWidth (t .reservations)
+  pub nodes : v .tree .nodes ≤ capacity nodeWidth (t .nodes)
+  pub props : v .tree .props ≤ capacity propertyWidth (t .properties)
+  pub bytes : AreBytes b
 
-        small : length b < 2 ^ 32
-        small = length-small b all (fine .encodes .layout .lengthIs)
+module _ {t : Tables} {b : List ℕ} {v : Plan} (h : Passes t b v) where
+  finds : Finds b v
+  finds = survey-finds b v (h .survey)
 
-        pub stores-ready : StoreReady b (v .reservations) (t .reservations)
-        unfolding tree
-        stores-ready = record {
-          rs = found .tree .reserved;
-          here = found .listed-at;
-          room = capacity-fits reservationWidth _ (t .reservations) (fine .reservationsFit);
-          small = small;
-        }
+  tree : Tree
+  tree = finds .tree
 
-        root-here : NodeHere b (block (v .strings)) (v .structure) (tree .root)
-        root-here =
-            let at = fine .encodes in
-            record {
-              good = at .good .names;
-              at = stands-at b (tree .root) (block-is (v .strings) (found .start ∙ strings-is ours b tree at) (found .end)) (found .structure ∙ structure-is ours b tree at) (at .layout .root);
-            }
+  accepts : load.load t b ≡ ok tree
+  unfolding load.load room tree
+  accepts =
+      then-ok _ _ (finds .loads) (then-ok _ _ (check-ok _ (le-leb _ _ (rw (finds .reserved) at (h .reserved))))
+      (then-ok _ _ (check-ok _ (le-leb _ _ (rw (finds .nodes) at (h .nodes)))) (then-ok _ _ (check-ok _ (le-leb _ _ (rw (finds .props) at (h .props)))) refl)))
 
-        pub writes-ready : NodeReady b (block (v .strings)) (ours .depthLimit b) (v .structure) 0 0 (t .nodes) (t .properties)
-        unfolding block ours format.NONE
-        writes-ready =
-            let few = counts-fit ours b tree all (fine .encodes) in
-            record {
-              tree = tree .root;
-              here = root-here;
-              ends = rw (found .end) (omega arith);
-              deep = fine .deep;
-              nodeRoom = rw zero-add (capacity-fits nodeWidth _ (t .nodes) (fine .nodesFit));
-              propRoom = rw zero-add (capacity-fits propertyWidth _ (t .properties) (fine .propertiesFit));
-              nodeFew = omega (arith, few .nodes);
-              propFew = omega (arith, few .properties);
-              small = small;
-            }
+  fine : Accepted t b tree
+  fine = accepted t b (h .bytes) tree .0 accepts
 
-        pub loaded : {nodes′ properties′ reserved′ : List ℕ} {next row prow : ℕ}
-            → ((rs : List Reservation) → listed b (v .reservations) ≡ ok rs → reserved′ ≡ sets (t .reservations) 0 (reservationNumbers rs))
-            → ((m : Node) → NodeHere b (block (v .strings)) (v .structure) m → record { next = next; row = row; prow = prow; nodes = nodes′; props = properties′ } ≡ nodeAfter b (block (v .strings)) m (v .structure) 0 0 format.NONE format.NONE (t .nodes) (t .properties))
-            → Loads t b (loadedNumbers (LoadedTree (v .tree))) (lent reserved′ nodes′ properties′)
-        unfolding lent tablesAfter numbers rows nodeAfter nodeWidth propertyWidth block tree
-        loaded {nodes′} {properties′} {reserved′} stored written =
-            let w = written (tree .root) root-here in
-            let first = stored (tree .reserved) (found .listed-at) in
-            let nodes-are : nodes′ ≡ sets (t .nodes) 0 (nodeNumbers (rows b tree .nodes)) =
-            ap (λ (s : State). s .nodes) w ∙ ap (λ q. sets (t .nodes) 0 (nodeNumbers (nodeRows (tree .root) q 0 0 format.NONE format.NONE))) (found .structure) in
-            let properties-are : properties′ ≡ sets (t .properties) 0 (propertyNumbers (rows b tree .properties)) =
-            ap (λ (s : State). s .props) w ∙ ap₂ (λ q k. sets (t .properties) 0 (propertyNumbers (nodeProperties b k (tree .root) q))) (found .structure) (found .start) in
-            record {
-              answers = answer-says b v found ∙ sym (ap (numbers treeNumbers) accepts);
-              leaves = rw (first, nodes-are, properties-are) (sym (ap (tablesAfter t b) accepts));
-            }
+  small : length b < 2 ^ 32
+  small = length-small b (h .bytes) (fine .encodes .layout .lengthIs)
+
+  pub stores-ready : StoreReady b (v .reservations) (t .reservations)
+  unfolding tree
+  stores-ready = record {
+    rs = finds .tree .reserved;
+    here = finds .listed-at;
+    room = capacity-fits reservationWidth _ (t .reservations) (fine .reservationsFit);
+    small = small;
+  }
+
+  root-here : NodeHere b (block (v .strings)) (v .structure) (tree .root)
+  root-here =
+      let at = fine .encodes in
+      record {
+        good = at .good .names;
+        at = stands-at b (tree .root) (block-is (v .strings) (finds .start ∙ strings-is ours b tree at) (finds .end)) (finds .structure ∙ structure-is ours b tree at) (at .layout .root);
+      }
+
+  pub writes-ready : NodeReady b (block (v .strings)) (ours .depthLimit b) (v .structure) 0 0 (t .nodes) (t .properties)
+  unfolding block ours format.NONE
+  writes-ready =
+      let few = counts-fit ours b tree (h .bytes) (fine .encodes) in
+      record {
+        tree = tree .root;
+        here = root-here;
+        ends = rw (finds .end) (omega arith);
+        deep = fine .deep;
+        nodeRoom = rw zero-add (capacity-fits nodeWidth _ (t .nodes) (fine .nodesFit));
+        propRoom = rw zero-add (capacity-fits propertyWidth _ (t .properties) (fine .propertiesFit));
+        nodeFew = omega (arith, few .nodes);
+        propFew = omega (arith, few .properties);
+        small = small;
+      }
+
+  pub loaded : {nodes′ properties′ reserved′ : List ℕ} {next row prow : ℕ}
+      → ((rs : List Reservation) → listed b (v .reservations) ≡ ok rs → reserved′ ≡ sets (t .reservations) 0 (reservationNumbers rs))
+      → ((m : Node) → NodeHere b (block (v .strings)) (v .structure) m → record { next = next; row = row; prow = prow; nodes = nodes′; props = properties′ } ≡ nodeAfter b (block (v .strings)) m (v .structure) 0 0 format.NONE format.NONE (t .nodes) (t .properties))
+      → Loads t b (loadedNumbers (LoadedTree (v .tree))) (lent reserved′ nodes′ properties′)
+  unfolding lent tablesAfter numbers rows nodeAfter nodeWidth propertyWidth block tree
+  loaded {nodes′} {properties′} {reserved′} stored written =
+      let w = written (tree .root) root-here in
+      let first = stored (tree .reserved) (finds .listed-at) in
+      let nodes-are : nodes′ ≡ sets (t .nodes) 0 (nodeNumbers (rows b tree .nodes)) =
+      ap (λ (s : State). s .nodes) w ∙ ap (λ q. sets (t .nodes) 0 (nodeNumbers (nodeRows (tree .root) q 0 0 format.NONE format.NONE))) (finds .structure) in
+      let properties-are : properties′ ≡ sets (t .properties) 0 (propertyNumbers (rows b tree .properties)) =
+      ap (λ (s : State). s .props) w ∙ ap₂ (λ q k. sets (t .properties) 0 (propertyNumbers (nodeProperties b k (tree .root) q))) (finds .structure) (finds .start) in
+      record {
+        answers = answer-says b v finds ∙ sym (ap (numbers treeNumbers) accepts);
+        leaves = rw (first, nodes-are, properties-are) (sym (ap (tablesAfter t b) accepts));
+      }

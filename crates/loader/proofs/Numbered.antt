@@ -1,10 +1,10 @@
 -- The numbers of a load's answer determine the answer. Assumes nothing.
 use mathlib.Core.Path.{_≡_, refl, sym, ap, _∙_}
 use Prim.Native.Nat.{ℕ}
-use mathlib.Core.List.{List, [], _∷_}
+use mathlib.Core.List.{List}
 use lib.ListN.{getD}
 use Rattle.format.specs.Answer.{Outcome, ok, refused, numbers}
-use Rattle.format.proofs.Answer.{numbers-same, ok-same, refused-same}
+use Rattle.format.proofs.Answer.{numbers-same}
 use Rattle.survey.specs.Outcomes.{whyOf}
 use Rattle.survey.specs.declared.DeviceTree.{DeviceTree}
 use Rattle.survey.proofs.Determined.{errorOf, error-back}

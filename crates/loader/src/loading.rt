@@ -1,5 +1,4 @@
 // `DeviceTree::load`: survey everything, judge the room, and only then write.
-ghost use mathlib.Core.Path.{_≡_};
 ghost use Rattle.format.specs.Load.{Loads, Measures};
 ghost use Rattle.loader.specs.Numbers.{loadedNumbers, lent};
 use crate::Loaded;

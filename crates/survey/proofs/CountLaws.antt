@@ -13,8 +13,7 @@ use borrow.Author.Tests.{eq-eqb, ne-eqb}
 use Rattle.format.specs.Bytes.{align, part, AreBytes}
 use Rattle.format.specs.Format.{BEGIN-NODE, END-NODE, PROP}
 use Rattle.format.specs.Answer.{Refusal, parseError, tooDeep, Outcome, ok, refused, _>>=_, check, orZero}
-use Rattle.format.specs.Tree.{Property, Node, Nodes, depth, nodeCount, nodeCounts, propertyCount, propertyCounts}
-use Rattle.format.specs.Encodes.{GoodNode, afterNode, NodeAt}
+use Rattle.format.specs.Tree.{Property, Nodes, nodeCount, nodeCounts, propertyCount, propertyCounts}
 use Rattle.format.specs.Read.{aligned, read-be-u32, read-bstring0, subslice, utf8Check, Read, property, properties, nodes, nodeLoad}
 use Rattle.format.proofs.Answer.{never, ok-same, step, ok-then, then-ok, then-refused, then-then, then-same, check-ok, check-no}
 use Rattle.format.proofs.Bytes.{align-up}
@@ -58,19 +57,6 @@ none-yet : (m : Outcome Props) → m ≡ (m >>= λ c. ok (record { next = c .nex
 unfolding _>>=_
 none-yet (ok c) = let e : 0 + c .props ≡ c .props = omega arith in rw e
 none-yet (refused r) = refl
-
--- ---- what the counts are of
-
--- the node that was counted: it stands at p, and what follows it begins where c says
-pub record Stands (b : List ℕ) (strings : Block) (d p : ℕ) (c : Passed) : Type 0 where
-  pub tree : Node
-  pub read : nodeLoad b (block strings) d p ≡ ok (record { value = tree; next = c .next })
-  pub good : GoodNode tree
-  pub at : NodeAt b (block strings) p tree
-  pub deep : depth tree ≤ d
-  pub next : c .next ≡ afterNode p tree
-  pub nodes : c .nodes ≡ nodeCount tree
-  pub props : c .props ≡ propertyCount tree
 
 -- a head at p: its name ends inside the blob, and it takes more bytes than it has properties
 record HeadSpan (b : List ℕ) (p : ℕ) (h : Head) : Type 0 where
@@ -278,33 +264,19 @@ module _ (b : List ℕ) (strings : Block) where
         rows = omega (arith, align-up (p + 4 + length name + 1));
       })
 
-  pub stands : AreBytes b → (d p : ℕ) {c : Passed} → nodeCounted d p ≡ ok c → Stands b strings d p c
+  pub node-spans : AreBytes b → (d p : ℕ) {c : Passed} → nodeCounted d p ≡ ok c → NodeSpan b p c
   unfolding counted
-  stands all d p e =
+  node-spans all d p e =
       step _ _ e λ r isRead e.
       let sound = node-sound b all (block strings) d p r isRead in
-      subst (Stands b strings d p) (ok-same e) (record {
-        tree = r .value;
-        read = isRead;
-        good = sound .good;
-        at = sound .at;
-        deep = sound .deep;
-        next = sound .next;
-        nodes = refl;
-        props = refl;
+      let span = node-span (r .value) p in
+      let within = node-inside b (block strings) p (r .value) (sound .at) in
+      let up = node-up (r .value) p in
+      subst (NodeSpan b p) (ok-same e) (record {
+        rows = omega (arith, sound .next);
+        moves = omega (arith, sound .next);
+        inside = omega (arith, sound .next);
       })
-
-  pub node-spans : AreBytes b → (d p : ℕ) {c : Passed} → nodeCounted d p ≡ ok c → NodeSpan b p c
-  node-spans all d p e =
-      let s = stands all d p e in
-      let span = node-span (s .tree) p in
-      let within = node-inside b (block strings) p (s .tree) (s .at) in
-      let up = node-up (s .tree) p in
-      record {
-        rows = omega (arith, s .next, s .nodes, s .props);
-        moves = omega (arith, s .next);
-        inside = omega (arith, s .next);
-      }
 
   -- ---- the loop over children
 

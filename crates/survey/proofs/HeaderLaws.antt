@@ -10,7 +10,7 @@ use lib.ListN.{length}
 use lib.Dec.{eqb}
 use borrow.Author.Tests.{eqb-true, eq-eqb, ne-eqb}
 use Rattle.format.specs.Answer.{Refusal, invalidMagicNumber, sizeMismatch, versionNotSupported, Outcome, ok, refused, _>>=_, check, orZero}
-use Rattle.format.specs.Bytes.{AreBytes, wordAt}
+use Rattle.format.specs.Bytes.{AreBytes}
 use Rattle.format.specs.Format.{magic, version, magicAt, totalSizeAt, structureAt, stringsAt, reservationsAt, versionAt, bootCpuAt}
 use Rattle.format.specs.Read.{read-be-u32}
 use Rattle.format.specs.Read as read

@@ -1,10 +1,9 @@
 -- The survey, a step at a time: what was found so far decides what the survey's outcome is, or what is left of it. Assumes nothing.
-use mathlib.Core.Path.{_≡_, refl, sym, ap, _∙_}
-use Prim.Native.Nat.{ℕ, _+_, _-_, _*_, _/_, _≤_}
+use mathlib.Core.Path.{_≡_, refl}
+use Prim.Native.Nat.{ℕ, _-_, _/_, _≤_}
 use native.Mathlib.Omega.{arith}
 use mathlib.Core.List.{List}
-use lib.ListN.{length}
-use Rattle.format.specs.Answer.{Refusal, Outcome, ok, refused}
+use Rattle.format.specs.Answer.{Refusal, ok, refused}
 use Rattle.format.specs.Format.{version}
 use Rattle.format.specs.Rules.{ours}
 use Rattle.format.specs.Read as read

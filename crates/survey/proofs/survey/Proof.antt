@@ -17,18 +17,25 @@ use Rattle.survey.proofs.SurveyLaws.{no-header, no-list, no-root, end-a
 use Rattle.survey.proofs.survey.Statement.{statement}
 use Rattle.survey.proofs.survey.Tie as tie
 
+-- the places where the header was found and where the list's end was, from later ones
+abbrev start : tie.After-header → tie.After-shared-slice-known
+start c = c .before .before .before
+
+abbrev header : tie.After-end → tie.After-header
+header c = c .before .before .before .before
+
 bytes : (c : tie.After-shared-slice-known) → AreBytes (now (c .before .args .b))
 unfolding AreBytes
 bytes c i = c .shared-slice-known .given i .fits
 
-isHeader : (c : tie.After-header) → headerOf (now (c .before .before .before .before .args .b)) ≡ ok (c .header .given .0 .0)
+isHeader : (c : tie.After-header) → headerOf (now (start c .before .args .b)) ≡ ok (c .header .given .0 .0)
 unfolding headerOutcome
 isHeader c = sym (c .before .before .judge-header .ensures) ∙ ap headerOutcome (c .header .given .1)
 
-fits : (c : tie.After-header) → Fits (now (c .before .before .before .before .args .b)) (c .header .given .0 .0)
-fits c = header-fits _ _ (bytes (c .before .before .before)) (isHeader c)
+fits : (c : tie.After-header) → Fits (now (start c .before .args .b)) (c .header .given .0 .0)
+fits c = header-fits _ _ (bytes (start c)) (isHeader c)
 
-isEnd : (c : tie.After-end) → let h = c .before .before .before .before in scanFrom (now (h .before .before .before .before .args .b)) (h .header .given .0 .0 .reservations) ≡ ok (c .end .given .0 .0)
+isEnd : (c : tie.After-end) → let h = header c in scanFrom (now (start h .before .args .b)) (h .header .given .0 .0 .reservations) ≡ ok (c .end .given .0 .0)
 unfolding nextOutcome
 isEnd c = sym (c .before .before .scan .ensures) ∙ ap nextOutcome (c .end .given .1)
 
@@ -46,28 +53,26 @@ returns-2 c =
     sym (no-list _ _ (isHeader (s .before .before)) (sym (s .scan .ensures) ∙ ap nextOutcome (c .before .why2 .given .1)))
 
 check-node-requires : tie.Need-check-node-requires
-check-node-requires c κs =
-    let f = fits (c .before .before .before .before .before) in
-    record { blob = f .blob; start = f .strings; end = omega arith }
+check-node-requires c κs = let f = fits (header (c .before)) in record { blob = f .blob; start = f .strings; end = omega arith }
 
 sub : tie.Need-sub-t19
 sub c =
     let e = c .before .before .before .before .before in
-    end-after _ _ (isHeader (e .before .before .before .before)) _ (isEnd e)
+    end-after _ _ (isHeader (header e)) _ (isEnd e)
 
 returns-3 : tie.Need-returns-3
 unfolding surveyOutcome nodeOutcome namesOf ours
 returns-3 c =
     let n = c .before .before .before in
     let e = n .before .before in
-    sym (no-root _ _ (isHeader (e .before .before .before .before)) _ (isEnd e) (sym (n .check-node .ensures) ∙ ap nodeOutcome (c .before .why3 .given .1)))
+    sym (no-root _ _ (isHeader (header e)) _ (isEnd e) (sym (n .check-node .ensures) ∙ ap nodeOutcome (c .before .why3 .given .1)))
 
 returns-4 : tie.Need-returns-4
 unfolding surveyOutcome nodeOutcome namesOf ours version
 returns-4 c =
     let n = c .before .before .before in
     let e = n .before .before in
-    sym (whole _ _ (isHeader (e .before .before .before .before)) _ (isEnd e) _ (sym (n .check-node .ensures) ∙ ap nodeOutcome (c .before .root .given .1)))
+    sym (whole _ _ (isHeader (header e)) _ (isEnd e) _ (sym (n .check-node .ensures) ∙ ap nodeOutcome (c .before .root .given .1)))
 
 pub survey-spec : {M : Type 1} → statement M
 survey-spec =

@@ -4,7 +4,7 @@ use Prim.Native.Nat.{ℕ, _+_, _-_, _<_}
 use native.Mathlib.Omega.{arith}
 use lib.ListN.{length}
 use borrow.Author.Needs.{needs}
-use borrow.Fn.Kinds.{In}
+use borrow.Fn.Kinds.{In, Out}
 use borrow.Fn.PlainCycle.{Measures, is, falls, and}
 use Rattle.format.specs.Format.{BEGIN-NODE}
 use Rattle.reader.proofs.word_at.Reads as word-at
@@ -39,86 +39,99 @@ Inv-loop b strings depth pos row prow parent nodes₀ props₀ p₀ k₀ r₀ to
 abbrev μ-loop : lts.MeasureT-loop
 μ-loop b strings depth pos row prow parent nodes₀ props₀ p₀ k₀ r₀ token₀ nodes props p k r token = length b + 4 - p
 
+-- a place or a need of a call with t levels left
+abbrev At : (lts.Claims → In 3 kinds.ps → Out 3 kinds.ps kinds.r → lts.InvT-loop → lts.MeasureT-loop → Type 0) → ℕ → Type 0
+At P t = P (callees t) (at t) write-node.Post Inv-loop μ-loop
+
 module _ (t : ℕ) where
-  write-head-requires : lts.Need-write-head-requires (callees t) (at t) write-node.Post Inv-loop μ-loop
-  write-head-requires c κs = node-head (c .before .before .before .before .before .pre .1)
+  -- the places that the facts are learnt at, each from a later one: the start, the head that was written, a turn of the loop
+  abbrev start : At lts.After-write-head-arg2 t → At lts.Start t
+  start c = c .before .before .before .before .before
 
-  add-row : lts.Need-add-r (callees t) (at t) write-node.Post Inv-loop μ-loop
+  abbrev head : At lts.At-loop t → At lts.After-write-head t
+  head c = let w = c .before in w .before .before .before .before .before
+
+  abbrev turn : At lts.After-write-node t → At lts.In-loop t
+  turn c = c .before .before .before
+
+  abbrev wrote : At lts.After-word-at2 t → At lts.After-write-node t
+  wrote c = c .before .before .before .before .before
+
+  write-head-requires : At lts.Need-write-head-requires t
+  write-head-requires c κs = node-head (start c .pre .1)
+
+  add-row : At lts.Need-add-r t
   add-row c =
-      let s = c .before .before .before .before .before .before .before .before .before .before in
-      record { fits = omega (arith, node-few (s .pre .1)) }
+      let h = c .before .before .before .before in
+      record { fits = omega (arith, node-few (start (h .before) .pre .1)) }
 
-  loop-holds : lts.Need-loop-holds (callees t) (at t) write-node.Post Inv-loop μ-loop
+  loop-holds : At lts.Need-loop-holds t
   loop-holds c =
-      let head = c .before .before .before .before .before in
-      node-start (head .before .before .before .before .before .before .pre .1) (head .write-head .ensures) (c .word-at .ensures)
+      let h = c .before .before .before .before .before in
+      node-start (start (h .before) .pre .1) (h .write-head .ensures) (c .word-at .ensures)
 
-  sub-depth : lts.Need-sub-write-node (callees t) (at t) write-node.Post Inv-loop μ-loop
+  sub-depth : At lts.Need-sub-write-node t
   sub-depth c = omega (arith, c .before .loop .inv .deep)
 
-  cast-row : lts.Need-cast-write-node (callees t) (at t) write-node.Post Inv-loop μ-loop
+  cast-row : At lts.Need-cast-write-node t
   cast-row c = record { fits = omega (arith, c .before .loop .inv .parentFew) }
 
-  write-node-requires : lts.Need-write-node-requires (callees t) (at t) write-node.Post Inv-loop μ-loop
+  write-node-requires : At lts.Need-write-node-requires t
   unfolding BEGIN-NODE
   write-node-requires c κs =
-      let at = c .before .before .before in
-      let s = at .before .before .before .before .before .before .before .before .before .before .before .before in
-      (omega (arith, at .loop .inv .deep, s .pre .0), child-ready (at .loop .inv) (c .before .before .loop-test .taken))
+      let in-loop = c .before .before in
+      let l = in-loop .before in
+      (omega (arith, l .loop .inv .deep, start (head l .before) .pre .0), child-ready (l .loop .inv) (in-loop .loop-test .taken))
 
-  cast-link : lts.Need-cast-link (callees t) (at t) write-node.Post Inv-loop μ-loop
+  cast-link : At lts.Need-cast-link t
   unfolding BEGIN-NODE
   cast-link c =
-      let wrote = c .before .before .before .before .before .before in
-      let turn = wrote .before .before .before in
-      record { fits = omega (arith, child-few (turn .before .loop .inv) (turn .loop-test .taken) (wrote .write-node .result) _ _ (wrote .write-node .ensures)) }
+      let w = wrote (c .before) in
+      record { fits = omega (arith, child-few (turn w .before .loop .inv) (turn w .loop-test .taken) (w .write-node .result) _ _ (w .write-node .ensures)) }
 
-  link-requires : lts.Need-link-requires (callees t) (at t) write-node.Post Inv-loop μ-loop
+  link-requires : At lts.Need-link-requires t
   unfolding BEGIN-NODE
   link-requires c κs =
-      let wrote = c .before .before .before .before .before .before in
-      let turn = wrote .before .before .before in
-      child-room (turn .before .loop .inv) (turn .loop-test .taken) (wrote .write-node .result) _ _ (wrote .write-node .ensures)
+      let w = wrote (c .before) in
+      child-room (turn w .before .loop .inv) (turn w .loop-test .taken) (w .write-node .result) _ _ (w .write-node .ensures)
 
-  loop-less : lts.Need-loop-less (callees t) (at t) write-node.Post Inv-loop μ-loop
+  loop-less : At lts.Need-loop-less t
   unfolding BEGIN-NODE
   loop-less c =
-      let wrote = c .before .before .before .before .before .before .before .before .before in
-      let turn = wrote .before .before .before in
-      child-less (turn .before .loop .inv) (turn .loop-test .taken) (wrote .write-node .result) _ _ (wrote .write-node .ensures)
+      let w = wrote (c .before .before .before .before) in
+      child-less (turn w .before .loop .inv) (turn w .loop-test .taken) (w .write-node .result) _ _ (w .write-node .ensures)
 
-  loop-again : lts.Need-loop-again (callees t) (at t) write-node.Post Inv-loop μ-loop
+  loop-again : At lts.Need-loop-again t
   unfolding BEGIN-NODE
   loop-again c =
       let linked = c .before .before in
       let token = linked .before .before in
-      let wrote = token .before .before .before .before .before in
-      let turn = wrote .before .before .before in
-      child-again (turn .before .loop .inv) (turn .loop-test .taken) (wrote .write-node .result) _ _ (wrote .write-node .ensures)
+      let w = wrote token in
+      child-again (turn w .before .loop .inv) (turn w .loop-test .taken) (w .write-node .result) _ _ (w .write-node .ensures)
       (token .word-at2 .ensures) (linked .link .ensures)
 
-  add-next : lts.Need-add-t31 (callees t) (at t) write-node.Post Inv-loop μ-loop
+  add-next : At lts.Need-add-t31 t
   add-next c =
       let inv = c .before .loop .inv in
       record { fits = omega (arith, turn-inside inv, inv .small) }
 
-  same-nodes : lts.Need-same-length (callees t) (at t) write-node.Post Inv-loop μ-loop
+  same-nodes : At lts.Need-same-length t
   unfolding BEGIN-NODE
   same-nodes c =
-      let head = c .before .before .before .before .before .before .before in
-      node-nodes (head .before .before .before .before .before .before .pre .1) (head .write-head .ensures) (c .before .loop .inv) (c .loop-test .left)
+      let h = head (c .before) in
+      node-nodes (start (h .before) .pre .1) (h .write-head .ensures) (c .before .loop .inv) (c .loop-test .left)
 
-  same-props : lts.Need-same-length-2 (callees t) (at t) write-node.Post Inv-loop μ-loop
+  same-props : At lts.Need-same-length-2 t
   unfolding BEGIN-NODE
   same-props c =
-      let head = c .before .before .before .before .before .before .before in
-      node-props (head .before .before .before .before .before .before .pre .1) (head .write-head .ensures) (c .before .loop .inv) (c .loop-test .left)
+      let h = head (c .before) in
+      node-props (start (h .before) .pre .1) (h .write-head .ensures) (c .before .loop .inv) (c .loop-test .left)
 
-  returns : lts.Need-returns (callees t) (at t) write-node.Post Inv-loop μ-loop
+  returns : At lts.Need-returns t
   unfolding passed BEGIN-NODE
   returns c =
-      let head = c .before .before .before .before .before .before .before in
-      node-end (head .before .before .before .before .before .before .pre .1) (head .write-head .ensures) (c .before .loop .inv) (c .loop-test .left)
+      let h = head (c .before) in
+      node-end (start (h .before) .pre .1) (h .write-head .ensures) (c .before .loop .inv) (c .loop-test .left)
 
 pub +write-node-spec : {M : Type 1} → statement M
 +write-node-spec = close depthOf λ t. lts.spec (callees t) (at t) write-node.Post Inv-loop μ-loop

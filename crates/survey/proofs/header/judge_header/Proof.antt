@@ -1,6 +1,6 @@
 -- `judge_header` meets its contract: each word that was read, and each test that it passed, goes to the header's outcome by one law.
 -- Assumes nothing.
-use mathlib.Core.Path.{_≡_, sym}
+use mathlib.Core.Path.{sym}
 use borrow.Author.Needs.{needs}
 use denote.Ref.{now}
 use Rattle.format.specs.Format.{magic, version}
@@ -11,29 +11,42 @@ use Rattle.survey.proofs.HeaderLaws.{Magic, Sized, Judged, no-magic, ba
 use Rattle.survey.proofs.header.judge_header.Statement.{statement}
 use Rattle.survey.proofs.header.judge_header.Tie as tie
 
+-- the places after each test, from the one after it, and where the first word was read
+abbrev start : tie.After-magic → tie.Start
+start c = c .before .before .before .before
+
+abbrev blob : tie.Else1 → tie.Start
+blob c = start (c .before .before)
+
+abbrev first : tie.Else2 → tie.Else1
+first c = c .before .before .before .before .before
+
+abbrev second : tie.Else3 → tie.Else2
+second c = c .before .before .before .before .before
+
 -- what has passed at each test
-passed-magic : (c : tie.Else1) → Magic (now (c .before .before .before .before .before .before .args .b))
+passed-magic : (c : tie.Else1) → Magic (now (blob c .args .b))
 unfolding magic
 passed-magic c =
     let w = c .before .before in
     record { word = w .magic .given .0 .0; is = word-got _ (w .magic .given .1) (w .before .before .read-be-u32 .ensures); good = c .if1 .left }
 
-passed-size : (c : tie.Else2) → Sized (now (c .before .before .before .before .before .before .before .before .before .before .before .args .b))
+passed-size : (c : tie.Else2) → Sized (now (blob (first c) .args .b))
 passed-size c =
     let w = c .before .before in
     record {
-      before = passed-magic (w .before .before .before);
+      before = passed-magic (first c);
       word = w .size .given .0 .0;
       is = word-got _ (w .size .given .1) (w .before .before .read-be-u322 .ensures);
       good = c .if2 .left;
     }
 
-passed-version : (c : tie.Else3) → Judged (now (c .before .before .before .before .before .before .before .before .before .before .before .before .before .before .before .before .args .b))
+passed-version : (c : tie.Else3) → Judged (now (blob (first (second c)) .args .b))
 unfolding version
 passed-version c =
     let w = c .before .before in
     record {
-      before = passed-size (w .before .before .before);
+      before = passed-size (second c);
       word = w .version .given .0 .0;
       is = word-got _ (w .version .given .1) (w .before .before .read-be-u323 .ensures);
       good = c .if3 .left;

@@ -19,7 +19,7 @@ use Rattle.survey.proofs.nodes.check_node.Reads as node
 use Rattle.survey.proofs.nodes.check_node.Kinds as kinds
 use Rattle.survey.proofs.nodes.+check_node.Lts-check_node as lts
 use Rattle.survey.proofs.nodes.check_head.Reads as head
-use Rattle.reader.proofs.Token.read.Reads as token
+use Rattle.reader.proofs.Token.read.Reads as read
 use Rattle.survey.proofs.nodes.check_end.Reads as end
 use Rattle.survey.proofs.nodes.+check_node.{statement}
 use Rattle.survey.proofs.nodes.+check_node.Tie.{close}
@@ -34,7 +34,7 @@ abbrev below : ℕ → In 1 kinds.ps
 below t = and 1 kinds.ps (falls 1 kinds.ps _<_ μ-check-node t) node.Pre
 
 abbrev callees : ℕ → lts.Claims
-callees t = (head.Asked, head.Learnt, token.Asked, token.Learnt, below t, node.Post, end.Asked, end.Learnt)
+callees t = (head.Asked, head.Learnt, read.Asked, read.Learnt, below t, node.Post, end.Asked, end.Learnt)
 
 abbrev Inv-loop : lts.InvT-loop
 Inv-loop b strings depth pos head p₀ n₀ k₀ p n k = Left b strings depth pos (head .len) p n k
@@ -47,24 +47,40 @@ abbrev At : (lts.Claims → In 1 kinds.ps → Out 1 kinds.ps kinds.r → lts.Inv
 At P t = P (callees t) (at t) node.Post Inv-loop μ-loop
 
 module _ (t : ℕ) where
-  -- what was learnt where: the blob's elements are bytes, the token at p, the child that was checked
-  all : (c : At lts.After-shared-slice-known t) → AreBytes (now (c .before .args .b))
-  unfolding AreBytes
-  all c = λ i. c .shared-slice-known .given i .fits
+  -- the places that the facts are learnt at, each from a later one: the node's first test, a turn of the loop, its token, its test
+  abbrev deepened : At lts.At-loop t → At lts.Else1 t
+  deepened c = c .before .before .before .before .before
 
-  isToken : (c : At lts.After-token t) → let l = c .before .before .before in
-      read-be-u32 (now (l .before .before .before .before .before .before .before .args .b)) (l .loop .p) ≡ ok (c .token .given .0 .0 .number)
+  abbrev start : At lts.At-loop t → At lts.Start t
+  start c = deepened c .before .before
+
+  abbrev turn : At lts.After-token t → At lts.At-loop t
+  turn c = c .before .before .before
+
+  abbrev token : At lts.Else2 t → At lts.After-token t
+  token c = c .before .before .before
+
+  abbrev opens : At lts.After-child t → At lts.Else2 t
+  opens c = c .before .before .before
+
+  -- the blob's elements are bytes; the token at p; the child that was checked, and how long it is
+  all : (c : At lts.At-loop t) → AreBytes (now (start c .args .b))
+  unfolding AreBytes
+  all c = λ i. deepened c .before .shared-slice-known .given i .fits
+
+  isToken : (c : At lts.After-token t) → let l = turn c in
+      read-be-u32 (now (start l .args .b)) (l .loop .p) ≡ ok (c .token .given .0 .0 .number)
   isToken c = token-got _ (c .token .given .1) (c .before .before .read .ensures)
 
-  isChild : (c : At lts.After-child t) → let l = c .before .before .before .before .before .before .before .before .before in
-      let a = l .before .before .before .before .before .before .before .args in
+  isChild : (c : At lts.After-child t) → let l = turn (token (opens c)) in
+      let a = start l .args in
       counted (nodeLoad (now (a .b)) (block (a .strings)) (a .depth - 1) (l .loop .p)) ≡ ok (c .child .given .0 .0)
   unfolding nodeOutcome
   isChild c = sym (c .before .before .check-node .ensures) ∙ ap nodeOutcome (c .child .given .1)
 
-  span : (c : At lts.After-child t) → let l = c .before .before .before .before .before .before .before .before .before in
-      NodeSpan (now (l .before .before .before .before .before .before .before .args .b)) (l .loop .p) (c .child .given .0 .0)
-  span c = node-spans _ _ (all (c .before .before .before .before .before .before .before .before .before .before .before .before .before .before .before)) _ _ (isChild c)
+  span : (c : At lts.After-child t) → let l = turn (token (opens c)) in
+      NodeSpan (now (start l .args .b)) (l .loop .p) (c .child .given .0 .0)
+  span c = node-spans _ _ (all (turn (token (opens c)))) _ _ (isChild c)
 
   returns : At lts.Need-returns t
   unfolding nodeOutcome whyOf
@@ -90,14 +106,13 @@ module _ (t : ℕ) where
   returns-3 : At lts.Need-returns-3 t
   unfolding nodeOutcome whyOf
   returns-3 c =
-      let read = c .before .before in
-      sym (left-past _ _ (read .before .loop .inv) (token-short _ (c .enum-told .given .1) (read .read .ensures)))
+      let call = c .before .before in
+      sym (left-past _ _ (call .before .loop .inv) (token-short _ (c .enum-told .given .1) (call .read .ensures)))
 
   check-node-requires : At lts.Need-check-node-requires t
   check-node-requires c κs =
-      let else = c .before .before .before .before .before .before .before .before .before .before .before in
-      let s = else .before .before in
-      (omega (arith, else .if1 .left, s .pre .0), s .pre .1)
+      let l = turn (token c) in
+      (omega (arith, deepened l .if1 .left, start l .pre .0), start l .pre .1)
 
   add-n : At lts.Need-add-n t
   add-n c = record { fits = omega (arith, span (c .before .before)) }
@@ -111,20 +126,18 @@ module _ (t : ℕ) where
   loop-again : At lts.Need-loop-again t
   loop-again c =
       let child = c .before .before .before in
-      let opens = child .before .before .before in
-      let token = opens .before .before .before in
-      let l = token .before .before .before in
-      left-child _ _ (l .loop .inv) (isToken token) (opens .if2 .left) (all (l .before .before .before .before .before .before)) (isChild child)
+      let opened = opens child in
+      let l = turn (token opened) in
+      left-child _ _ (l .loop .inv) (isToken (token opened)) (opened .if2 .left) (all l) (isChild child)
 
   returns-4 : At lts.Need-returns-4 t
   unfolding nodeOutcome whyOf
   returns-4 c =
       let why = c .before in
       let call = why .before .before in
-      let opens = call .before in
-      let token = opens .before .before .before in
+      let opened = call .before in
       let refused = sym (call .check-node .ensures) ∙ ap nodeOutcome (why .why2 .given .1) in
-      sym (left-bad-child _ _ (token .before .before .before .loop .inv) (isToken token) (opens .if2 .left) refused)
+      sym (left-bad-child _ _ (turn (token opened) .loop .inv) (isToken (token opened)) (opened .if2 .left) refused)
 
   returns-5 : At lts.Need-returns-5 t
   unfolding nextOutcome nodeOutcome
@@ -132,9 +145,9 @@ module _ (t : ℕ) where
       let got = c .before in
       let call = got .before .before in
       let other = call .before in
-      let token = other .before .before .before in
+      let told = other .before .before .before in
       let good = sym (call .check-end .ensures) ∙ ap nextOutcome (got .next .given .1) in
-      sym (left-good _ _ (token .before .before .before .loop .inv) (isToken token) (other .if2 .taken) good)
+      sym (left-good _ _ (turn told .loop .inv) (isToken told) (other .if2 .taken) good)
 
   returns-6 : At lts.Need-returns-6 t
   unfolding nextOutcome nodeOutcome whyOf
@@ -142,9 +155,9 @@ module _ (t : ℕ) where
       let why = c .before in
       let call = why .before .before in
       let other = call .before in
-      let token = other .before .before .before in
+      let told = other .before .before .before in
       let bad = sym (call .check-end .ensures) ∙ ap nextOutcome (why .why3 .given .1) in
-      sym (left-bad-end _ _ (token .before .before .before .loop .inv) (isToken token) (other .if2 .taken) bad)
+      sym (left-bad-end _ _ (turn told .loop .inv) (isToken told) (other .if2 .taken) bad)
 
 pub +check-node-spec : {M : Type 1} → statement M
 +check-node-spec = close μ-check-node λ t. lts.spec (callees t) (at t) node.Post Inv-loop μ-loop

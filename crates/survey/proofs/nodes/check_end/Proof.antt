@@ -13,6 +13,7 @@ use Rattle.survey.proofs.CountLaws.{end-past, end-other, end-bad-name, 
 use Rattle.survey.proofs.nodes.check_end.Statement.{statement}
 use Rattle.survey.proofs.nodes.check_end.Tie as tie
 
+-- the token at pos
 isToken : (c : tie.After-token) → let a = c .before .before .before .before .args in
     read-be-u32 (now (a .b)) (a .pos) ≡ ok (c .token .given .0 .0 .number)
 isToken c = token-got _ (c .token .given .1) (c .before .before .read .ensures)
@@ -26,7 +27,9 @@ unfolding nextOutcome whyOf
 returns-2 c = sym (end-other _ _ _ _ (isToken (c .before .before .before)) (c .if1 .taken))
 
 add-next : tie.Need-add-t17
-add-next c = record { fits = omega (arith, read-inside _ 4 _ (isToken (c .before .before .before .before .before .before .before))) }
+add-next c =
+    let closes = c .before .before .before .before in
+    record { fits = omega (arith, read-inside _ 4 _ (isToken (closes .before .before .before))) }
 
 returns-3 : tie.Need-returns-3
 unfolding nextOutcome

@@ -16,22 +16,39 @@ use Rattle.survey.proofs.CountLaws.{told-inside, prop-no-size, prop-no-
 use Rattle.survey.proofs.nodes.check_prop.Statement.{statement}
 use Rattle.survey.proofs.nodes.check_prop.Tie as tie
 
--- what each read gave, where it gave something
-size : (c : tie.After-size) → let a = c .before .before .before .before .args in
+-- the places where each read gave something, from the one after it
+abbrev start : tie.After-size → tie.Start
+start c = c .before .before .before .before
+
+abbrev sized : tie.After-offset → tie.After-size
+sized c = c .before .before .before .before
+
+abbrev offsets : tie.After-enum-told3 → tie.After-offset
+offsets c = c .before .before .before .before
+
+abbrev valued : tie.After-len → tie.After-enum-told3
+valued c = c .before .before .before .before .before
+
+abbrev named : tie.After-from-utf8 → tie.After-len
+named c = c .before .before .before
+
+-- what each read gave
+size : (c : tie.After-size) → let a = start c .args in
     read-be-u32 (now (a .b)) (a .pos + 4) ≡ ok (c .size .given .0 .0)
 size c = word-got _ (c .size .given .1) (c .before .before .read-be-u32 .ensures)
 
-offset : (c : tie.After-offset) → let a = c .before .before .before .before .before .before .before .before .args in
+offset : (c : tie.After-offset) → let a = start (sized c) .args in
     read-be-u32 (now (a .b)) (a .pos + 8) ≡ ok (c .offset .given .0 .0)
 offset c = word-got _ (c .offset .given .1) (c .before .before .read-be-u322 .ensures)
 
-value : (c : tie.After-enum-told3) → let a = c .before .before .before .before .before .before .before .before .before .before .before .before .args in
-    let end = a .pos + 12 + c .before .before .before .before .before .before .before .before .size .given .0 .0 in
-    Told (a .pos + 12) (subslice (now (a .b)) (a .pos + 12) end) (c .enum-told3 .given .0 .0) (c .enum-told3 .given .0 .1 .0)
+value : (c : tie.After-enum-told3) → let s = sized (offsets c) in
+    let a = start s .args in
+    Told (a .pos + 12) (subslice (now (a .b)) (a .pos + 12) (a .pos + 12 + s .size .given .0 .0)) (c .enum-told3 .given .0 .0) (c .enum-told3 .given .0 .1 .0)
 value c = span-part _ _ (c .enum-told3 .given .1) (c .before .before .subslice .ensures)
 
-name : (c : tie.After-len) → let a = c .before .before .before .before .before .before .before .before .before .before .before .before .before .before .before .before .before .args in
-    let at = a .strings .start + c .before .before .before .before .before .before .before .before .before .offset .given .0 .0 in
+name : (c : tie.After-len) → let o = offsets (valued c) in
+    let a = start (sized o) .args in
+    let at = a .strings .start + o .offset .given .0 .0 in
     Told at (read-bstring0 (take (a .strings .end) (now (a .b))) at) (c .len .given .0 .0) (c .len .given .0 .1 .0)
 name c = span-part _ _ (c .len .given .1) (c .before .before .read-bstring0 .ensures)
 
@@ -49,9 +66,8 @@ returns-3 : tie.Need-returns-3
 unfolding nextOutcome whyOf
 returns-3 c =
     let cut = c .before .before in
-    let second = cut .before .before in
-    let first = second .before .before .before .before in
-    sym (prop-no-value _ _ _ (size first) (offset second) (span-none _ _ (c .enum-told4 .given .1) (cut .subslice .ensures)))
+    let o = cut .before .before in
+    sym (prop-no-value _ _ _ (size (sized o)) (offset o) (span-none _ _ (c .enum-told4 .given .1) (cut .subslice .ensures)))
 
 slice-aggregate-names : tie.Need-slice-aggregate-names
 slice-aggregate-names c = sym (length-take-le _ _ (omega arith))
@@ -60,10 +76,9 @@ returns-4 : tie.Need-returns-4
 unfolding nextOutcome whyOf
 returns-4 c =
     let read = c .before .before in
-    let cut = read .before .before .before in
-    let second = cut .before .before .before .before in
-    let first = second .before .before .before .before in
-    sym (prop-no-name _ _ _ (size first) (offset second) (value cut) (span-none _ _ (c .enum-told5 .given .1) (read .read-bstring0 .ensures)))
+    let v = read .before .before .before in
+    let o = offsets v in
+    sym (prop-no-name _ _ _ (size (sized o)) (offset o) (value v) (span-none _ _ (c .enum-told5 .given .1) (read .read-bstring0 .ensures)))
 
 add-from-utf8 : tie.Need-add-from-utf8
 add-from-utf8 c =
@@ -78,22 +93,18 @@ unfolding nextOutcome
 returns-5 c =
     let good = c .before in
     let utf8 = good .before .before in
-    let named = utf8 .before .before .before in
-    let cut = named .before .before .before .before .before in
-    let second = cut .before .before .before .before in
-    let first = second .before .before .before .before in
-    let small = first .before .before .before .before .pre .0 .blob in
-    sym (prop-good _ _ _ (size first) (offset second) (value cut) (name named) small (checked-good _ (good .enum-told6 .given .1) (utf8 .from-utf8 .ensures)) (c .aligned .ensures))
+    let n = named utf8 in
+    let o = offsets (valued n) in
+    sym (prop-good _ _ _ (size (sized o)) (offset o) (value (valued n)) (name n) (start (sized o) .pre .0 .blob)
+    (checked-good _ (good .enum-told6 .given .1) (utf8 .from-utf8 .ensures)) (c .aligned .ensures))
 
 returns-6 : tie.Need-returns-6
 unfolding nextOutcome whyOf
 returns-6 c =
     let utf8 = c .before .before in
-    let named = utf8 .before .before .before in
-    let cut = named .before .before .before .before .before in
-    let second = cut .before .before .before .before in
-    let first = second .before .before .before .before in
-    sym (prop-bad-name _ _ _ (size first) (offset second) (value cut) (name named) (checked-bad _ (c .enum-told7 .given .1) (utf8 .from-utf8 .ensures)))
+    let n = named utf8 in
+    let o = offsets (valued n) in
+    sym (prop-bad-name _ _ _ (size (sized o)) (offset o) (value (valued n)) (name n) (checked-bad _ (c .enum-told7 .given .1) (utf8 .from-utf8 .ensures)))
 
 pub check-prop-spec : {M : Type 1} → statement M
 check-prop-spec =

@@ -23,64 +23,71 @@ Inv-loop b strings pos p₀ n₀ p n = (allProps b strings pos ≡ propsFrom b s
 abbrev μ-loop : tie.MeasureT-loop
 μ-loop b strings pos p₀ n₀ p n = length b - p
 
+-- a place of this invariant and measure; the turn at which a token was read, and the places after its test
+abbrev Of : (tie.InvT-loop → tie.MeasureT-loop → Type 0) → Type 0
+Of P = P Inv-loop μ-loop
+
+abbrev turn : Of tie.After-token → Of tie.At-loop
+turn c = c .before .before .before
+
+abbrev token : Of tie.Else1 → Of tie.After-token
+token c = c .before .before .before
+
+abbrev opens : Of tie.After-q → Of tie.Else1
+opens c = c .before .before .before
+
 -- the token at p, and what follows the property there
-isToken : (c : tie.After-token Inv-loop μ-loop) → let at = c .before .before .before in
+isToken : (c : Of tie.After-token) → let at = turn c in
     read-be-u32 (now (at .before .before .args .b)) (at .loop .p) ≡ ok (c .token .given .0 .0 .number)
 isToken c = token-got _ (c .token .given .1) (c .before .before .read .ensures)
 
-isNext : (c : tie.After-q Inv-loop μ-loop) → let at = c .before .before .before .before .before .before .before .before .before in
+isNext : (c : Of tie.After-q) → let at = turn (token (opens c)) in
     let a = at .before .before .args in
     nextOf (property (now (a .b)) (block (a .strings)) (at .loop .p)) ≡ ok (c .q .given .0 .0)
 unfolding nextOutcome
 isNext c = sym (c .before .before .check-prop .ensures) ∙ ap nextOutcome (c .q .given .1)
 
-loop-holds : tie.Need-loop-holds Inv-loop μ-loop
+loop-holds : Of tie.Need-loop-holds
 loop-holds c = (from-start _ _ _, search needs)
 
-returns : tie.Need-returns Inv-loop μ-loop
+returns : Of tie.Need-returns
 unfolding propsOutcome whyOf
 returns c =
     let read = c .before .before in
     sym (read .before .loop .inv .0 ∙ from-past _ _ _ _ (token-short _ (c .enum-told .given .1) (read .read .ensures)))
 
-returns-2 : tie.Need-returns-2 Inv-loop μ-loop
+returns-2 : Of tie.Need-returns-2
 unfolding propsOutcome
 returns-2 c =
-    let token = c .before .before .before in
-    sym (token .before .before .before .loop .inv .0 ∙ from-stop _ _ _ _ (isToken token) (c .if1 .taken))
+    let other = c .before .before .before in
+    sym (turn other .loop .inv .0 ∙ from-stop _ _ _ _ (isToken other) (c .if1 .taken))
 
-check-prop-requires : tie.Need-check-prop-requires Inv-loop μ-loop
-check-prop-requires c κs =
-    let token = c .before .before .before in
-    (token .before .before .before .before .before .pre, read-inside _ 4 _ (isToken token))
+check-prop-requires : Of tie.Need-check-prop-requires
+check-prop-requires c κs = (turn (token c) .before .before .pre, read-inside _ 4 _ (isToken (token c)))
 
-returns-3 : tie.Need-returns-3 Inv-loop μ-loop
+returns-3 : Of tie.Need-returns-3
 unfolding nextOutcome propsOutcome whyOf
 returns-3 c =
     let why = c .before in
     let call = why .before .before in
-    let token = call .before .before .before .before in
+    let opened = call .before in
     let refused = sym (call .check-prop .ensures) ∙ ap nextOutcome (why .why .given .1) in
-    sym (token .before .before .before .loop .inv .0 ∙ from-bad _ _ _ _ (isToken token) (call .before .if1 .left) refused)
+    sym (turn (token opened) .loop .inv .0 ∙ from-bad _ _ _ _ (isToken (token opened)) (opened .if1 .left) refused)
 
-add-n : tie.Need-add-n Inv-loop μ-loop
-add-n c =
-    let token = c .before .before .before .before .before .before .before in
-    record { fits = omega (arith, read-inside _ 4 _ (isToken token)) }
+add-n : Of tie.Need-add-n
+add-n c = record { fits = omega (arith, read-inside _ 4 _ (isToken (token (opens (c .before))))) }
 
-loop-less : tie.Need-loop-less Inv-loop μ-loop
+loop-less : Of tie.Need-loop-less
 loop-less c =
     let q = c .before in
-    let token = q .before .before .before .before .before .before in
-    omega (arith, read-inside _ 4 _ (isToken token), propertyMoves _ _ _ _ (isNext q))
+    omega (arith, read-inside _ 4 _ (isToken (token (opens q))), propertyMoves _ _ _ _ (isNext q))
 
-loop-again : tie.Need-loop-again Inv-loop μ-loop
+loop-again : Of tie.Need-loop-again
 loop-again c =
     let q = c .before in
-    let else = q .before .before .before in
-    let token = else .before .before .before in
-    let inv = token .before .before .before .loop .inv in
-    (inv .0 ∙ from-good _ _ _ _ (isToken token) (else .if1 .left) (isNext q), omega (arith, inv .1, propertyMoves _ _ _ _ (isNext q)))
+    let opened = opens q in
+    let inv = turn (token opened) .loop .inv in
+    (inv .0 ∙ from-good _ _ _ _ (isToken (token opened)) (opened .if1 .left) (isNext q), omega (arith, inv .1, propertyMoves _ _ _ _ (isNext q)))
 
 pub check-props-spec : {M : Type 1} → statement M
 check-props-spec =
