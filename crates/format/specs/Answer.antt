@@ -85,7 +85,10 @@ unfoldable pub orEmpty : Outcome (List ℕ) → List ℕ
 orEmpty (ok xs) = xs
 orEmpty (refused r) = []
 
--- a total call answers 0 on a refusal
+-- a total call answers a number of its own on a refusal, mostly 0
+unfoldable pub orElse : ℕ → Outcome ℕ → ℕ
+orElse d (ok n) = n
+orElse d (refused r) = d
+
 unfoldable pub orZero : Outcome ℕ → ℕ
-orZero (ok n) = n
-orZero (refused r) = 0
+orZero = orElse 0

@@ -5,7 +5,7 @@ use native.Mathlib.Omega.{arith}
 use mathlib.Core.List.{List, [], _∷_}
 use lib.ListN.{length}
 use lib.Seq.{sets}
-use Rattle.format.specs.Answer.{orZero, orEmpty}
+use Rattle.format.specs.Answer.{orElse, orZero, orEmpty}
 use Rattle.format.specs.Bytes.{bigEndian, wordAt}
 use Rattle.format.specs.Format.{NONE, nodeWidth}
 use Rattle.format.specs.Tree.{Property}
@@ -17,11 +17,11 @@ use Rattle.loader.specs.declared.write.Props.{Props}
 use Rattle.loader.specs.Pass.{stringLength, PropsHere, PropsReady, PropsState, propsState, propsAfter, firstAt, HeadReady, childRow, headNumbers, HeadDone}
 
 module _ {b : List ℕ} {strings : Block} {p row prow : ℕ} {nodes props : List ℕ} (h : HeadReady b strings p row prow nodes props) where
-  module _ {len q : ℕ} (isLength : len ≡ length (orEmpty (read-bstring0 b (p + 4)))) (isFirst : q ≡ orZero (aligned (p + 4 + len + 1) 4)) where
+  module _ {len q : ℕ} (isLength : len ≡ length (orEmpty (read-bstring0 b (p + 4)))) (isFirst : q ≡ orElse (p + 4 + len + 1) (aligned (p + 4 + len + 1) 4)) where
     first : q ≡ firstAt b p
     unfolding firstAt stringLength
     first =
-        isFirst ∙ ap (λ n. orZero (aligned (p + 4 + n + 1) 4)) isLength
+        isFirst ∙ ap (λ n. orElse (p + 4 + n + 1) (aligned (p + 4 + n + 1) 4)) isLength
         ∙ aligned-total (p + 4 + length (orEmpty (read-bstring0 b (p + 4))) + 1) (omega (arith, h .nameInside, h .small))
 
     pub head-props : PropsReady b strings q prow props

@@ -8,7 +8,7 @@ use native.Mathlib.Nat.{add-zero}
 use mathlib.Core.List.{List, [], _∷_}
 use lib.ListN.{length, take, length-append}
 use lib.Seq.{sets, length-sets}
-use Rattle.format.specs.Answer.{orZero, orEmpty}
+use Rattle.format.specs.Answer.{orElse, orZero, orEmpty}
 use Rattle.format.specs.Bytes.{Has, bigEndian, word, wordAt, align}
 use Rattle.format.specs.Format.{PROP, propertyWidth}
 use Rattle.format.specs.Tree.{Property}
@@ -30,8 +30,8 @@ module _ {b : List ℕ} {strings : Block} {p row : ℕ} {table : List ℕ} (h : 
   prop-size : {size : ℕ} → size ≡ orZero (read-be-u32 b (p + 4)) → size ≡ wordAt b (p + 4)
   prop-size e = e ∙ word-total b (p + 4) (omega (arith, h .inside))
 
-  pub prop-next : {size next : ℕ} → size ≡ orZero (read-be-u32 b (p + 4)) → next ≡ orZero (aligned (p + 12 + size) 4) → next ≡ align (p + 12 + wordAt b (p + 4)) 4
-  prop-next e k = k ∙ ap (λ n. orZero (aligned (p + 12 + n) 4)) (prop-size e) ∙ aligned-total (p + 12 + wordAt b (p + 4)) (omega (arith, h .inside, h .small))
+  pub prop-next : {size next : ℕ} → size ≡ orZero (read-be-u32 b (p + 4)) → next ≡ orElse (p + 12 + size) (aligned (p + 12 + size) 4) → next ≡ align (p + 12 + wordAt b (p + 4)) 4
+  prop-next e k = k ∙ ap (λ n. orElse (p + 12 + n) (aligned (p + 12 + n) 4)) (prop-size e) ∙ aligned-total (p + 12 + wordAt b (p + 4)) (omega (arith, h .inside, h .small))
 
   pub prop-name : {offset : ℕ} → offset ≡ orZero (read-be-u32 b (p + 8)) → strings .start + offset ≡ nameStart b strings p
   unfolding nameStart

@@ -4,7 +4,7 @@ use mathlib.Core.Path.{_≡_, refl, sym, ap, _∙_}
 use Prim.Native.Nat.{ℕ}
 use mathlib.Core.List.{List}
 use lib.ListN.{length}
-use Rattle.format.specs.Answer.{numbers, itself, place, spanAt, orEmpty, orZero}
+use Rattle.format.specs.Answer.{numbers, itself, place, spanAt, orEmpty, orElse, orZero}
 use Rattle.format.specs.Read.{aligned, read-be-u32, read-be-u64, read-bstring0, subslice}
 use Rattle.reader.specs.declared.Word.{Word}
 use Rattle.reader.specs.declared.Word.the-variants as word
@@ -63,7 +63,7 @@ pub align-determined : (val to : ℕ) (r s : Place)
     → placeNumbers r ≡ numbers itself (aligned val to) → placeNumbers s ≡ numbers itself (aligned val to) → r ≡ s
 align-determined val to r s h k = place-by-numbers r s (h ∙ sym k)
 
-pub aligned-determined : (val to : ℕ) (r s : ℕ) → r ≡ orZero (aligned val to) → s ≡ orZero (aligned val to) → r ≡ s
+pub aligned-determined : (val to : ℕ) (r s : ℕ) → r ≡ orElse val (aligned val to) → s ≡ orElse val (aligned val to) → r ≡ s
 aligned-determined val to r s h k = h ∙ sym k
 
 module _ (buf : List ℕ) (start end : ℕ) where

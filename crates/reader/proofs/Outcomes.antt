@@ -4,7 +4,7 @@
 use mathlib.Core.Path.{_≡_, refl, sym, ap, _∙_}
 use Prim.Native.Nat.{ℕ}
 use mathlib.Core.List.{List}
-use Rattle.format.specs.Answer.{Outcome, ok, refused, unexpectedEndOfInput, refusalNumbers, numbers, itself, place, orZero, orEmpty}
+use Rattle.format.specs.Answer.{Outcome, ok, refused, unexpectedEndOfInput, refusalNumbers, numbers, itself, place, orElse, orZero, orEmpty}
 use Rattle.format.specs.Answer as answer
 use Rattle.format.proofs.Answer.{itself-same, place-same}
 use Rattle.reader.specs.declared.Word.{Word}
@@ -129,9 +129,13 @@ token-short {r} m k e = sym (token-outcome r m e) ∙ ap tokenOutcome k
 
 -- ---- the total calls and the parts, where something was read
 
+pub or-else : (d : ℕ) {m : Outcome ℕ} {n : ℕ} → m ≡ ok n → orElse d m ≡ n
+unfolding orElse
+or-else d e = ap (orElse d) e
+
 pub or-zero : {m : Outcome ℕ} {n : ℕ} → m ≡ ok n → orZero m ≡ n
 unfolding orZero
-or-zero e = ap orZero e
+or-zero e = or-else 0 e
 
 pub or-empty : {m : Outcome (List ℕ)} {xs : List ℕ} → m ≡ ok xs → orEmpty m ≡ xs
 unfolding orEmpty

@@ -6,12 +6,12 @@ use Prim.Native.Nat.{ℕ, _+_, _^_, _≤_, _<_}
 use native.Mathlib.Omega.{arith}
 use native.Mathlib.Decide.{decLe}
 use borrow.Author.Tests.{lt-ltb, le-ltb, eq-eqb, ne-eqb}
-use Rattle.format.specs.Answer.{Refusal, ok, refused, unexpectedEndOfInput, orZero}
+use Rattle.format.specs.Answer.{Refusal, ok, refused, unexpectedEndOfInput, orElse}
 use Rattle.format.specs.Bytes.{align}
 use Rattle.format.specs.Read.{aligned}
 use Rattle.format.proofs.Answer.{never, ok-same, step, then-ok, then-refused, check-ok, check-no}
 use Rattle.format.proofs.Bytes.{align-near}
-use Rattle.reader.proofs.Outcomes.{or-zero}
+use Rattle.reader.proofs.Outcomes.{or-else}
 
 module _ (val to : ℕ) where
   pub aligned-none : to ≡ 0 → aligned val to ≡ refused unexpectedEndOfInput
@@ -44,5 +44,5 @@ pub aligned-4 : (val : ℕ) → val + 3 < 2 ^ 64 → aligned val 4 ≡ ok (align
 aligned-4 val h = aligned-there val 4 (λ e. omega arith) (omega (arith, align-near val))
 
 -- what `aligned` promises of a position, where the range does not end
-pub aligned-total : (val : ℕ) → val + 3 < 2 ^ 64 → orZero (aligned val 4) ≡ align val 4
-aligned-total val h = or-zero (aligned-4 val h)
+pub aligned-total : (val : ℕ) → val + 3 < 2 ^ 64 → orElse val (aligned val 4) ≡ align val 4
+aligned-total val h = or-else val (aligned-4 val h)

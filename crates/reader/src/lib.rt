@@ -3,7 +3,7 @@
 ghost use mathlib.Core.Path.{_≡_};
 ghost use Prim.Native.Nat.{_+_, _≤_, _<_};
 ghost use lib.ListN.{length};
-ghost use Rattle.format.specs.Answer.{numbers, itself, place, spanAt, orEmpty, orZero};
+ghost use Rattle.format.specs.Answer.{numbers, itself, place, spanAt, orEmpty, orElse, orZero};
 ghost use Rattle.format.specs.Bytes.{wordAt};
 ghost use Rattle.format.specs.Read.{aligned, read-be-u32, read-be-u64, read-bstring0, subslice};
 ghost use Rattle.reader.specs.Numbers.{wordNumbers, longNumbers, placeNumbers, spanNumbers, tokenNumbers};
@@ -202,13 +202,13 @@ pub fn long_at(buf: &[u8], pos: usize) -> u64
     }
 }
 
-// `val` rounded up to a multiple of `to`, 0 where there is none in the range.
+// `val` rounded up to a multiple of `to`, `val` itself where there is none in the range.
 pub fn aligned(val: usize, to: usize) -> usize
-    ensures { λ r. ⌜ r ≡ orZero (aligned val to) ⌝ }
+    ensures { λ r. ⌜ r ≡ orElse val (aligned val to) ⌝ }
 {
     match align(val, to) {
         Place::At(next) => next,
-        Place::Short => 0,
+        Place::Short => val,
     }
 }
 

@@ -12,7 +12,7 @@ use lib.ListN.{length, take, drop}
 use borrow.Author.Tests.{eq-eqb, ne-eqb}
 use Rattle.format.specs.Bytes.{align, part, AreBytes}
 use Rattle.format.specs.Format.{BEGIN-NODE, END-NODE, PROP}
-use Rattle.format.specs.Answer.{Refusal, parseError, tooDeep, Outcome, ok, refused, _>>=_, check, orZero}
+use Rattle.format.specs.Answer.{Refusal, parseError, tooDeep, Outcome, ok, refused, _>>=_, check, orElse}
 use Rattle.format.specs.Tree.{Property, Nodes, nodeCount, nodeCounts, propertyCount, propertyCounts}
 use Rattle.format.specs.Read.{aligned, read-be-u32, read-bstring0, subslice, utf8Check, Read, property, properties, nodes, nodeLoad}
 use Rattle.format.proofs.Answer.{never, ok-same, step, ok-then, then-ok, then-refused, then-then, then-same, check-ok, check-no}
@@ -160,7 +160,7 @@ module _ (b : List ℕ) (strings : Block) where
             pub prop-bad-name : {r : Refusal} → utf8Check nameBytes ≡ refused r → propNext p ≡ refused r
             prop-bad-name e = judged ∙ then-refused _ _ e
 
-            pub prop-good : {next : ℕ} → length b < 2 ^ 32 → utf8Check nameBytes ≡ ok tt → next ≡ orZero (aligned (p + 12 + size) 4) → propNext p ≡ ok next
+            pub prop-good : {next : ℕ} → length b < 2 ^ 32 → utf8Check nameBytes ≡ ok tt → next ≡ orElse (p + 12 + size) (aligned (p + 12 + size) 4) → propNext p ≡ ok next
             prop-good small e isNext =
                 let inside = part-read b (p + 12) size (value .read) .ends in
                 judged ∙ then-ok _ _ e (ap ok (sym (isNext ∙ aligned-total (p + 12 + size) (omega arith))))
@@ -222,7 +222,7 @@ module _ (b : List ℕ) (strings : Block) where
         head-no-name e = opened ∙ then-refused _ _ e
 
         module _ {start len : ℕ} (small : length b < 2 ^ 32) (name : Told (p + 4) (read-bstring0 b (p + 4)) start len)
-            {q : ℕ} (isNext : q ≡ orZero (aligned (p + 4 + len + 1) 4)) where
+            {q : ℕ} (isNext : q ≡ orElse (p + 4 + len + 1) (aligned (p + 4 + len + 1) 4)) where
           named : headOf b (block strings) p ≡ (allProps q >>= λ own. ok (record { len = len; next = own .next; props = own .props }))
           named =
               let inside = told-inside b (p + 4) name in

@@ -1,19 +1,19 @@
 -- `long_at` meets its promise: the number that `read_be_u64` gives, or 0. Assumes nothing.
 use borrow.Author.Needs.{needs}
 use mathlib.Core.Path.{sym, ap}
-use Rattle.format.specs.Answer.{orZero}
+use Rattle.format.specs.Answer.{orElse, orZero}
 use Rattle.reader.proofs.Outcomes.{long-got, long-short}
 use Rattle.reader.proofs.long_at.Statement.{statement}
 use Rattle.reader.proofs.long_at.Tie as tie
 
 returns : tie.Need-returns
-unfolding orZero
+unfolding orZero orElse
 returns c =
     let got = c .before in
     sym (ap orZero (long-got _ (got .n .given .1) (got .before .before .read-be-u64 .ensures)))
 
 returns-2 : tie.Need-returns-2
-unfolding orZero
+unfolding orZero orElse
 returns-2 c = sym (ap orZero (long-short _ (c .enum-told .given .1) (c .before .before .read-be-u64 .ensures)))
 
 pub long-at-spec : {M : Type 1} → statement M
