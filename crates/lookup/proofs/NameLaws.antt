@@ -1,147 +1,43 @@
--- Comparing parts, a byte and a word at a time, and the first name of a path. Assumes, for words, that the elements are bytes.
+-- The first name of a path and what follows it, by the name's end r. Assumes nothing.
 use mathlib.Core.Path.{_≡_, refl, sym, ap, _∙_}
-use mathlib.Core.Logic.{_≢_}
-use Prim.Native.Nat.{ℕ, zero, suc, _+_, _-_, _≤_, _<_}
+use Prim.Native.Nat.{ℕ, suc, _+_, _-_, _≤_}
 use native.Mathlib.Omega.{arith}
-use native.Mathlib.Nat.{add-zero}
 use native.Mathlib.Numerals.{add-one}
-use mathlib.Core.List.{List, [], _∷_, _++_, append-assoc, append-nil}
-use mathlib.Core.Bool.{Bool, true, false, _||_, true≢false}
-use lib.ListN.{length, drop, getD, drop-of-length-le}
-use lib.Seq.{take-suc, drop-cons, ext-getD}
+use mathlib.Core.List.{List, [], _∷_}
+use lib.ListN.{length, take, drop}
 use lib.Dec.{eqb}
-use borrow.Author.Tests.{eqb-true, eqb-false, eq-eqb, ne-eqb}
 use borrow.Rule.Slice.PartAt.{part-to-end}
-use Rattle.format.specs.Bytes.{part, AreBytes}
-use Rattle.format.specs.Find.{SLASH, head, rest, same}
-use Rattle.format.proofs.Tools.{split, tested, if-yes, if-no}
-use Rattle.format.proofs.Bytes.{part-length}
-use Rattle.format.proofs.Names.{same-is}
-use Rattle.lookup.specs.Places.{NameEnd, Scan, lowest}
+use Rattle.format.specs.Bytes.{part}
+use Rattle.format.specs.Find.{SLASH, head, rest}
+use Rattle.format.proofs.Tools.{tested, if-yes, if-no}
 
--- ---- the same bytes
+head-inside : (p : List ℕ) → length (head p) ≤ length p
+unfolding head
+head-inside [] = omega arith
+head-inside (c ∷ p) = tested (eqb c SLASH) (λ e. rw (if-yes _ _ e) (omega arith)) (λ e. rw (if-no _ _ e) (omega (arith, head-inside p)))
 
-same-self : (xs : List ℕ) → same xs xs ≡ true
-unfolding same
-same-self [] = refl
-same-self (x ∷ xs) = rw (eq-eqb x x refl, same-self xs)
+head-is : (p : List ℕ) → head p ≡ take (length (head p)) p
+unfolding head
+head-is [] = refl
+head-is (c ∷ p) = tested (eqb c SLASH) (λ e. rw (if-yes _ _ e)) (λ e. rw (if-no _ _ e) (ap (λ s. c ∷ s) (head-is p)))
 
-unequal : (xs ys : List ℕ) → (xs ≡ ys → ⊥) → same xs ys ≡ false
-unequal xs ys n = tested (same xs ys) (λ e. absurd (n (same-is xs ys e))) (λ e. e)
-
-pub length-differs : (s : List ℕ) (a n : ℕ) (t : List ℕ) → a + n ≤ length s → n ≢ length t → false ≡ same (part s a n) t
-length-differs s a n t h d = sym (unequal (part s a n) t (λ e. d (sym (part-length s a n h) ∙ ap length e)))
-
-module _ (s t : List ℕ) where
-  -- every byte from i on is the same
-  abbrev pub Alike : ℕ → Type 0
-  Alike i = (k : ℕ) → i ≤ k → k < length s → getD s k 0 ≡ getD t k 0
-
-  pub alike-same : length s ≡ length t → Alike 0 → true ≡ same s t
-  alike-same size all =
-      let e : s ≡ t = ext-getD 0 s t size (λ i h. all i (omega arith) h) in
-      sym (rw e (same-self t))
-
-  pub byte-differs : (i : ℕ) → getD s i 0 ≢ getD t i 0 → false ≡ same s t
-  byte-differs i d = sym (unequal s t (λ e. d (ap (λ l. getD l i 0) e)))
-
-  -- one byte further to the front
-  pub alike-more : (i : ℕ) → Alike i → getD s (i - 1) 0 ≡ getD t (i - 1) 0 → Alike (i - 1)
-  alike-more i all e k h l = split i k (λ g. all k g l) (λ g.
-      let same : i - 1 ≡ k = omega arith in
-      rw same at e)
-
-  -- ---- a word at a time
-
-  -- words that are the same have the same bytes, and the other way round
-  record Fours (p : ℕ) : Type 0 where
-    first : getD s p 0 ≡ getD t p 0
-    second : getD s (p + 1) 0 ≡ getD t (p + 1) 0
-    third : getD s (p + 2) 0 ≡ getD t (p + 2) 0
-    fourth : getD s (p + 3) 0 ≡ getD t (p + 3) 0
-
-  fours : (p : ℕ) → AreBytes s → AreBytes t → lowest s p ≡ lowest t p → Fours p
-  unfolding AreBytes lowest
-  fours p bs bt e = omega (arith, bs p, bs (p + 1), bs (p + 2), bs (p + 3), bt p, bt (p + 1), bt (p + 2), bt (p + 3))
-
-  four-alike : (p : ℕ) → Fours p → (j : ℕ) → j < 4 → getD s (p + j) 0 ≡ getD t (p + j) 0
-  four-alike p each zero h = rw (add-zero p) (each .first)
-  four-alike p each (suc zero) h = each .second
-  four-alike p each (suc (suc zero)) h = each .third
-  four-alike p each (suc (suc (suc zero))) h = each .fourth
-  four-alike p each (suc (suc (suc (suc j)))) h = absurd (omega arith)
-
-  pub word-alike : AreBytes s → AreBytes t → (i : ℕ) → lowest s i ≡ lowest t i → Alike (i + 4) → Alike i
-  word-alike bs bt i e all k lo l = split (i + 4) k (λ g. all k g l) (λ g.
-      let x : i + (k - i) ≡ k = omega arith in
-      rw x at (four-alike i (fours i bs bt e) (k - i) (omega arith)))
-
-  pub word-differs : (i : ℕ) → lowest s i ≢ lowest t i → false ≡ same s t
-  word-differs i d = sym (unequal s t (λ e. d (ap (λ l. lowest l i) e)))
-
-  -- all but the first word is the same
-  pub first-word : AreBytes s → AreBytes t → length s ≡ length t → Alike 4 → eqb (lowest s 0) (lowest t 0) ≡ same s t
-  first-word bs bt size all =
-      tested (eqb (lowest s 0) (lowest t 0))
-      (λ e. e ∙ alike-same size (word-alike bs bt 0 (eqb-true _ _ e) all))
-      (λ e. e ∙ word-differs 0 (eqb-false _ _ e))
-
--- ---- the first name of a path
-
-pub scan-start : (p : List ℕ) → Scan p 0
-unfolding part
-scan-start p = record { inside = omega arith; first = refl; later = refl }
-
-one-more : (p : List ℕ) (i : ℕ) → i < length p → part p 0 (i + 1) ≡ part p 0 i ++ getD p i 0 ∷ []
-unfolding part
-one-more p i k = rw (add-one i) (take-suc p i 0 k)
-
-pub scan-more : (p : List ℕ) (i : ℕ) → Scan p i → i < length p → getD p i 0 ≢ 0x2f → Scan p (i + 1)
-unfolding head rest SLASH
-scan-more p i x h d =
-    let n = ne-eqb (getD p i 0) 0x2f d in
-    let e₁ : head (drop i p) ≡ getD p i 0 ∷ head (drop (i + 1) p) = rw (add-one i, drop-cons p i 0 h) (if-no _ _ n) in
-    let e₂ : rest (drop i p) ≡ rest (drop (i + 1) p) = rw (add-one i, drop-cons p i 0 h) (if-no _ _ n) in
-    record { inside = omega arith; first = x .first ∙ rw (e₁, one-more p i h, append-assoc); later = x .later ∙ e₂ }
-
--- two tests that are both made, and both fail
-pub neither : (a b : Bool) → (a || b) ≡ false → (a ≡ false) × (b ≡ false)
-neither true b e = absurd (true≢false e)
-neither false b e = (refl, e)
-
--- four bytes
-pub scan-word : (p : List ℕ) (i : ℕ) → i + 4 ≤ length p → getD p i 0 ≢ 0x2f → getD p (i + 1) 0 ≢ 0x2f → getD p (i + 2) 0 ≢ 0x2f → getD p (i + 3) 0 ≢ 0x2f
-    → Scan p i → Scan p (i + 4)
-scan-word p i h a b c d x =
-    let e₂ : i + 2 ≡ i + 1 + 1 = omega arith in
-    let e₃ : i + 3 ≡ i + 2 + 1 = omega arith in
-    let e₄ : i + 4 ≡ i + 3 + 1 = omega arith in
-    let one : Scan p (i + 1) = scan-more p i x (omega arith) a in
-    let two : Scan p (i + 2) = rw e₂ (scan-more p (i + 1) one (omega arith) b) in
-    let three : Scan p (i + 3) = rw e₃ (scan-more p (i + 2) two (omega arith) c) in
-    rw e₄ (scan-more p (i + 3) three (omega arith) d)
-
-pub scan-slash : (p : List ℕ) (i : ℕ) → Scan p i → i < length p → getD p i 0 ≡ 0x2f → NameEnd p i
-unfolding head rest SLASH
-scan-slash p i x h d =
-    let n = eq-eqb (getD p i 0) 0x2f d in
-    let e₁ : head (drop i p) ≡ [] = rw (drop-cons p i 0 h) (if-yes _ _ n) in
-    let e₂ : rest (drop i p) ≡ drop (i + 1) p = rw (add-one i, drop-cons p i 0 h) (if-yes _ _ n) in
-    record { inside = x .inside; first = x .first ∙ rw (e₁, append-nil); later = x .later ∙ e₂ }
-
-pub scan-end : (p : List ℕ) (i : ℕ) → Scan p i → length p ≤ i → NameEnd p i
+rest-is : (p : List ℕ) → rest p ≡ drop (suc (length (head p))) p
 unfolding head rest
-scan-end p i x h =
-    let e₁ : drop i p ≡ [] = drop-of-length-le p h in
-    let k : length p ≤ i + 1 = omega arith in
-    let e₂ : drop (i + 1) p ≡ [] = drop-of-length-le p k in
-    record { inside = x .inside; first = x .first ∙ rw (e₁, append-nil); later = x .later ∙ rw (e₁, e₂) }
+rest-is [] = refl
+rest-is (c ∷ p) = tested (eqb c SLASH) (λ e. rw (if-yes _ _ e, if-yes _ _ e)) (λ e. rw (if-no _ _ e, if-no _ _ e) (rest-is p))
 
--- ---- parts of a path, as they are lent
+module _ (p : List ℕ) (r : ℕ) (end : r ≡ length (head p)) where
+  pub name-inside : r ≤ length p
+  name-inside = omega (arith, head-inside p)
 
-pub name-lent : (p : List ℕ) (r : ℕ) → NameEnd p r → head p ≡ part p 0 (r - 0)
-name-lent p r x = let e : r - 0 ≡ r = omega arith in x .first ∙ rw e
+  pub rest-later : rest p ≡ drop (r + 1) p
+  rest-later = rest-is p ∙ rw (add-one r, end)
 
-pub rest-lent : (p : List ℕ) (r : ℕ) → NameEnd p r → rest p ≡ part p (r + 1) (length p - (r + 1))
-unfolding part
-rest-lent p r x = x .later ∙ sym (part-to-end p (r + 1))
+  -- as they are lent
+  pub name-lent : head p ≡ part p 0 (r - 0)
+  unfolding part
+  name-lent = let e : r - 0 ≡ length (head p) = omega arith in rw e (head-is p)
+
+  pub rest-lent : rest p ≡ part p (r + 1) (length p - (r + 1))
+  unfolding part
+  rest-lent = rest-later ∙ sym (part-to-end p (r + 1))

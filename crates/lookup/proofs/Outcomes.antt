@@ -1,9 +1,13 @@
 -- Promises and outcomes: an answer's numbers are those of an outcome exactly where the answer stands for that outcome.
 -- `x-outcome` turns a promise into an outcome; `x-promise` is the way back, by which the lookups meet their promises. Assumes nothing.
 use mathlib.Core.Path.{_≡_, refl, sym, ap, _∙_}
-use Prim.Native.Nat.{ℕ}
+use Prim.Native.Nat.{ℕ, _+_, _≤_}
+use mathlib.Core.List.{List}
+use lib.ListN.{length}
 use Rattle.format.specs.Answer.{Outcome, ok, refused, nothingFound, notUsable, refusalNumbers, numbers, itself, nothing, place, Span}
+use Rattle.format.specs.Lookup.{Lent, prop-raw}
 use Rattle.format.proofs.Answer.{itself-same, nothing-same, place-same}
+use Rattle.format.proofs.Inside.{raw-inside}
 use Rattle.lookup.specs.Answers.{foundNumbers, foundOutcome, hasNumbers, hasOutcome, valueNumbers, valueOutcome}
 use Rattle.lookup.specs.declared.Found.{Found}
 use Rattle.lookup.specs.declared.Found.the-variants as found
@@ -62,3 +66,8 @@ module _ {r : Value} (m : Outcome Span) (e : valueNumbers r ≡ numbers place m)
   pub value-unusable : r ≡ value.Unusable → m ≡ refused notUsable
   unfolding valueOutcome
   value-unusable k = sym (value-outcome r m e) ∙ ap valueOutcome k
+
+-- the value that `prop_raw` tells lies in the blob
+pub value-inside : (b : List ℕ) (l : Lent) (row : ℕ) (name : List ℕ) {r : Value} {start len : ℕ} → valueNumbers r ≡ numbers place (prop-raw b l row name)
+    → r ≡ value.Part start len → start + len ≤ length b
+value-inside b l row name e k = raw-inside b l row name _ (value-part _ e k)

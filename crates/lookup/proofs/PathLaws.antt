@@ -1,18 +1,18 @@
 -- Looking up a path: what holds before each part of it and before each child, and the public calls by cases. Assumes nothing.
 use mathlib.Core.Path.{_≡_, refl, sym, ap, _∙_}
 use mathlib.Core.Logic.{_⊎_, ⊎-elim, _≢_}
-use Prim.Native.Nat.{ℕ, zero, suc, _+_, _-_, _/_, _≤_, _<_}
+use Prim.Native.Nat.{ℕ, zero, suc, _+_, _-_, _*_, _/_, _≤_, _<_}
 use native.Mathlib.Omega.{arith}
 use mathlib.Core.List.{List, [], _∷_}
 use mathlib.Core.Bool.{true, false, _&&_}
 use lib.ListN.{length, drop, getD}
-use borrow.Author.Tests.{ne-eqb, eq-eqb, leb-true, le-leb, lt-leb, lt-ltb, le-ltb}
+use lib.Dec.{leb, ltb}
+use borrow.Author.Tests.{ne-eqb, eq-eqb, leb-true, ltb-true, le-leb, lt-leb}
 use borrow.Rule.Slice.PartAt.{part-to-end}
 use Rattle.format.specs.Answer.{Refusal, Outcome, ok, refused, _>>=_, nothingFound, notUsable}
 use Rattle.format.specs.Bytes.{part}
 use Rattle.format.specs.Format.{NONE, nodeWidth}
-use Rattle.format.specs.Rows.{at, nodesIn}
-use Rattle.format.specs.Rows as rows
+use Rattle.format.specs.Rows.{NodeRow, at, nodesIn}
 use Rattle.format.specs.Load.{capacity}
 use Rattle.format.specs.Find.{head, rest, same, SLASH, afterSlash}
 use Rattle.format.specs.Lookup.{linkGood, linksGood, nameInside, nameAt, across, down, reach, usable, find-from, find}
@@ -20,15 +20,15 @@ use Rattle.format.proofs.Tools.{both, tested, if-yes, if-no}
 use Rattle.format.proofs.Answer.{never, ok-same, then-ok, then-refused, check-ok, check-no}
 use Rattle.format.proofs.Lookup.{across-other, across-here, across-below, across-none, across-bad}
 use Rattle.format.proofs.Reached.{There, follows, led, links-of, links-good, Enough, next-enough, turns-enough}
-use Rattle.lookup.specs.Places.{IsNode, childFrom, Kids, ChildGives}
-use Rattle.lookup.specs.declared.judge.NodeRow.{NodeRow}
+use Rattle.lookup.specs.Places.{IsNode, childFrom, ChildGives}
+use Rattle.lookup.specs.declared.judge.NodeCells.{NodeCells}
 use Rattle.lookup.specs.declared.path.Child.{Child}
 use Rattle.lookup.specs.declared.path.Child.the-variants as child
 use Rattle.lookup.proofs.RowLaws.{leads}
 
 -- ---- one turn of the search for a child
 
-module _ (b : List ℕ) (R : List rows.NodeRow) where
+module _ (b : List ℕ) (R : List NodeRow) where
   child-zero : (r : ℕ) (first : List ℕ) → refused notUsable ≡ childFrom b R zero r first
   unfolding childFrom
   child-zero r first = refl
@@ -103,18 +103,18 @@ module _ (b : List ℕ) (R : List rows.NodeRow) where
 
 -- ---- the path: before each part of it the row is judged, and what is left below it gives the whole answer
 
-pub record Way (b : List ℕ) (R : List rows.NodeRow) (goal : Outcome ℕ) (row link : ℕ) (path : List ℕ) : Type 0 where
+pub record Way (b : List ℕ) (R : List NodeRow) (goal : Outcome ℕ) (row link : ℕ) (path : List ℕ) : Type 0 where
   pub there : row < length R
   pub good : linkGood R row link ≡ true
   pub own : link ≡ at R row .firstChild
   pub same : goal ≡ down b R row path
 
-module _ (b : List ℕ) (R : List rows.NodeRow) where
+module _ (b : List ℕ) (R : List NodeRow) where
   pub reach-bad : (path : List ℕ) (row : ℕ) → linksGood R row ≡ false → refused notUsable ≡ reach b R row path
   unfolding reach
   reach-bad path row g = sym (then-refused _ _ (check-no _ g))
 
-  pub way-start : (path : List ℕ) (row : ℕ) (x : NodeRow) → row < length R → linksGood R row ≡ true → IsNode x (at R row) → Way b R (reach b R row path) row (x .child) path
+  pub way-start : (path : List ℕ) (row : ℕ) (x : NodeCells) → row < length R → linksGood R row ≡ true → IsNode x (at R row) → Way b R (reach b R row path) row (x .child) path
   unfolding reach
   way-start path row x h g is = record { there = h; good = rw (is .child) (links-of b R row g .0); own = is .child; same = then-ok _ _ (check-ok _ g) refl }
 
@@ -155,43 +155,51 @@ module _ (b : List ℕ) (R : List rows.NodeRow) where
 
 -- ---- the children
 
+-- before a link of row `low` is followed: what it answers from here on is the goal
+pub record Kids (b : List ℕ) (R : List NodeRow) (goal : Outcome ℕ) (first : List ℕ) (link : ℕ) : Type 0 where
+  pub low : ℕ
+  pub turns : ℕ
+  pub there : low < length R
+  pub enough : length R ≤ low + turns
+  pub good : linkGood R low link ≡ true
+  pub same : goal ≡ childFrom b R turns link first
+
 -- before a row is judged
-pub record Kid (b : List ℕ) (R : List rows.NodeRow) (goal : Outcome ℕ) (first : List ℕ) (row : ℕ) : Type 0 where
+pub record Kid (b : List ℕ) (R : List NodeRow) (goal : Outcome ℕ) (first : List ℕ) (row : ℕ) : Type 0 where
   pub turns : ℕ
   pub there : row < length R
   pub some : row ≢ NONE
   pub enough : length R ≤ row + turns
   pub same : goal ≡ childFrom b R (suc turns) row first
 
-module _ (b : List ℕ) (R : List rows.NodeRow) where
-  pub kids-begin : (row link : ℕ) (first : List ℕ) → row < length R → linkGood R row link ≡ true → Kids b R (childFrom b R (length R) link first) first row link
-  kids-begin row link first there good = record { turns = length R; there = there; enough = omega arith; good = good; same = refl }
+pub kids-begin : (b : List ℕ) (R : List NodeRow) (link : ℕ) (first : List ℕ) (low : ℕ) → low < length R → linkGood R low link ≡ true
+    → Kids b R (childFrom b R (length R) link first) first link
+kids-begin b R link first low there good = record {
+  low = low;
+  turns = length R;
+  there = there;
+  enough = omega arith;
+  good = good;
+  same = refl;
+}
 
-  module _ (goal : Outcome ℕ) (first : List ℕ) where
-    module _ (low link : ℕ) (x : Kids b R goal first low link) where
-      -- there is a turn left
-      turned : goal ≡ childFrom b R (suc (x .turns - 1)) link first
-      turned =
-          let left : x .turns ≡ suc (x .turns - 1) = omega (arith, x .there, x .enough) in
-          x .same ∙ ap (λ k. childFrom b R k link first) left
+module _ (b : List ℕ) (R : List NodeRow) (goal : Outcome ℕ) (first : List ℕ) (link : ℕ) (x : Kids b R goal first link) where
+  -- there is a turn left
+  turned : goal ≡ childFrom b R (suc (x .turns - 1)) link first
+  turned =
+      let left : x .turns ≡ suc (x .turns - 1) = omega (arith, x .there, x .enough) in
+      x .same ∙ ap (λ k. childFrom b R k link first) left
 
-      pub kids-none : link ≡ NONE → goal ≡ refused nothingFound
-      kids-none e = turned ∙ rw e (child-none b R (x .turns - 1) first)
+  pub kids-none : link ≡ NONE → goal ≡ refused nothingFound
+  kids-none e = turned ∙ rw e (child-none b R (x .turns - 1) first)
 
-      pub kids-below : link ≢ NONE → (low < link) × (link < length R)
-      kids-below some = leads R low link (x .good) some
-
-      pub kids-some : link ≢ NONE → Kid b R goal first link
-      kids-some some = record {
-        turns = x .turns - 1;
-        there = kids-below some .1;
-        some = some;
-        enough = omega (arith, kids-below some, x .enough, x .there);
-        same = turned;
-      }
+  pub kids-some : link ≢ NONE → Kid b R goal first link
+  kids-some some =
+      let below = leads R (x .low) link (x .good) some in
+      record { turns = x .turns - 1; there = below .1; some = some; enough = omega (arith, below, x .enough, x .there); same = turned }
 
 -- a row that was judged, and its numbers
-module _ (b : List ℕ) (R : List rows.NodeRow) (row : ℕ) (node : NodeRow) (is : IsNode node (at R row)) (g : (linksGood R row && nameInside b R row) ≡ true) where
+module _ (b : List ℕ) (R : List NodeRow) (row : ℕ) (node : NodeCells) (is : IsNode node (at R row)) (g : (linksGood R row && nameInside b R row) ≡ true) where
   name-is : nameAt b R row ≡ part b (node .name) (node .len)
   unfolding nameAt
   name-is = rw (is .name, is .len)
@@ -207,8 +215,9 @@ module _ (b : List ℕ) (R : List rows.NodeRow) (row : ℕ) (node : NodeRow) (is
     pub kid-here : same (part b (node .name) (node .len)) first ≡ true → goal ≡ ok row
     kid-here e = x .same ∙ child-here b R (x .turns) row first (x .some) g (rw name-is e)
 
-    pub kid-next : same (part b (node .name) (node .len)) first ≡ false → Kids b R goal first row (node .next)
+    pub kid-next : same (part b (node .name) (node .len)) first ≡ false → Kids b R goal first (node .next)
     kid-next e = record {
+      low = row;
       turns = x .turns;
       there = x .there;
       enough = x .enough;
@@ -216,22 +225,22 @@ module _ (b : List ℕ) (R : List rows.NodeRow) (row : ℕ) (node : NodeRow) (is
       same = x .same ∙ child-next b R (x .turns) row first (x .some) g (rw name-is e) ∙ rw (is .next);
     }
 
-pub kid-bad : (b : List ℕ) (R : List rows.NodeRow) (row : ℕ) → (linksGood R row && nameInside b R row) ≡ false
+pub kid-bad : (b : List ℕ) (R : List NodeRow) (row : ℕ) → (linksGood R row && nameInside b R row) ≡ false
     → (goal : Outcome ℕ) (first : List ℕ) → Kid b R goal first row → goal ≡ refused notUsable
 kid-bad b R row e goal first x = x .same ∙ child-bad b R (x .turns) row first (x .some) e
 
 -- ---- what the search gives
 
-module _ (R : List rows.NodeRow) (goal : Outcome ℕ) {r : Child} (g : ChildGives R goal r) where
-  pub gives-at : {row link : ℕ} → r ≡ child.At row link → (goal ≡ ok row) × (link ≡ at R row .firstChild)
+module _ (b : List ℕ) (R : List NodeRow) (link : ℕ) (first : List ℕ) {r : Child} (g : ChildGives b R link first r) where
+  pub gives-at : {row below : ℕ} → r ≡ child.At row below → (childFrom b R (length R) link first ≡ ok row) × (below ≡ at R row .firstChild)
   unfolding ChildGives
   gives-at e = rw e at g
 
-  pub gives-nothing : r ≡ child.Nothing → goal ≡ refused nothingFound
+  pub gives-nothing : r ≡ child.Nothing → childFrom b R (length R) link first ≡ refused nothingFound
   unfolding ChildGives
   gives-nothing e = rw e at g
 
-  pub gives-unusable : r ≡ child.Unusable → goal ≡ refused notUsable
+  pub gives-unusable : r ≡ child.Unusable → childFrom b R (length R) link first ≡ refused notUsable
   unfolding ChildGives
   gives-unusable e = rw e at g
 
@@ -242,14 +251,16 @@ module _ (t : List ℕ) (n row : ℕ) where
   unfolding usable capacity nodeWidth
   too-many h = rw (lt-leb n (length t / 7) h)
 
-  module _ (h : n ≤ length t / 7) where
-    pub not-below : n ≤ row → usable t n row ≡ false
-    unfolding usable capacity nodeWidth
-    not-below k = rw (le-leb n (length t / 7) h, le-ltb row n k)
+  pub if-below : n ≤ length t / 7 → usable t n row ≡ ltb row n
+  unfolding usable capacity nodeWidth
+  if-below h = rw (le-leb n (length t / 7) h)
 
-    pub can-be-used : row < n → usable t n row ≡ true
-    unfolding usable capacity nodeWidth
-    can-be-used k = rw (le-leb n (length t / 7) h, lt-ltb row n k)
+  -- the row and its table's room
+  pub used : usable t n row ≡ true → (row < n) × (nodeWidth * n ≤ length t)
+  unfolding usable capacity nodeWidth
+  used u =
+      let fits : n ≤ length t / 7 = leb-true _ _ (both (leb n (length t / 7)) (ltb row n) u .0) in
+      (ltb-true _ _ (both (leb n (length t / 7)) (ltb row n) u .1), omega arith)
 
 module _ (b t : List ℕ) (n row : ℕ) (path : List ℕ) where
   pub from-unusable : usable t n row ≡ false → refused notUsable ≡ find-from b t n row path

@@ -2,25 +2,33 @@
 use mathlib.Core.Path.{_≡_, refl, sym, _∙_}
 use Prim.Native.Nat.{ℕ, suc, _+_, _-_, _/_, _≤_, _<_}
 use native.Mathlib.Omega.{arith}
-use mathlib.Core.List.{List}
+use mathlib.Core.Logic.{_⊎_, ⊎-elim}
+use mathlib.Core.List.{List, []}
 use mathlib.Core.Bool.{true, false}
 use lib.Dec.{leb}
 use lib.ListN.{length}
 use borrow.Author.Tests.{le-leb, lt-leb}
-use Rattle.format.specs.Answer.{Outcome, ok, refused, Span, nothingFound, notUsable}
+use denote.Enum.Declared.{tagOf}
+use Rattle.format.specs.Answer.{Outcome, ok, refused, Span, nothingFound, notUsable, numbers, place, orEmpty}
+use Rattle.format.specs.Agrees.{bytesIn}
 use Rattle.format.specs.Bytes.{part}
 use Rattle.format.specs.Format.{propertyWidth}
-use Rattle.format.specs.Rows.{at, nodesIn, propertiesIn}
-use Rattle.format.specs.Rows as rows
+use Rattle.format.specs.Rows.{at, propertyAt, nodesIn, propertiesIn}
 use Rattle.format.specs.Load.{capacity}
 use Rattle.format.specs.Find.{same}
 use Rattle.format.specs.Lookup.{usable, partsInside, propertyName, valueSpan, among, propertiesInside, propertyOf, prop-raw}
 use Rattle.format.proofs.Tools.{if-yes, if-no}
 use Rattle.format.proofs.Answer.{then-ok, then-refused, check-ok, check-no}
-use Rattle.lookup.specs.Answers.{lent}
-use Rattle.lookup.specs.Places.{IsNode, IsProperty, nodeAt, propertyAt}
-use Rattle.lookup.specs.declared.judge.NodeRow.{NodeRow}
-use Rattle.lookup.specs.declared.judge.PropRow.{PropRow}
+use Rattle.format.proofs.Inside.{bytes-none}
+use Rattle.lookup.specs.Answers.{lent, valueNumbers}
+use Rattle.lookup.specs.Places.{IsNode, IsProperty, nodeIn, propertyIn}
+use Rattle.lookup.specs.declared.judge.NodeCells.{NodeCells}
+use Rattle.lookup.specs.declared.judge.PropertyCells.{PropertyCells}
+use Rattle.lookup.specs.declared.Value.{Value}
+use Rattle.lookup.specs.declared.Value.the-variants as value
+use Rattle.lookup.proofs.Value.{the-type}
+use Rattle.lookup.proofs.Outcomes.{value-nothing, value-unusable}
+use Rattle.lookup.proofs.PathLaws.{used}
 use Rattle.lookup.proofs.RowLaws.{properties-length, node-read, property-read}
 
 -- ---- a turn: the property rows from k up to `end`, of the n that the table t holds
@@ -33,8 +41,8 @@ module _ (b t name : List ℕ) (end n k : ℕ) (few : end ≤ n) where
   unfolding among
   none-left h = let e : end - k ≡ 0 = omega arith in rw e
 
-  module _ (h : k < end) (x : PropRow) (is : IsProperty x (propertyAt t k)) where
-    row : IsProperty x (rows.propertyAt (propertiesIn n t) k)
+  module _ (h : k < end) (x : PropertyCells) (is : IsProperty x (propertyIn t k)) where
+    row : IsProperty x (propertyAt (propertiesIn n t) k)
     row = property-read n t k x (omega arith) is
 
     one-more : end - k ≡ suc (end - (k + 1))
@@ -81,9 +89,9 @@ module _ (b nodes : List ℕ) (n : ℕ) (props : List ℕ) (m row : ℕ) (name :
     unfolding prop-raw lent capacity propertyWidth
     raw-many l = sym (then-refused _ _ (check-no _ (rw (u, lt-leb m (length props / 4) l))))
 
-    module _ (l : m ≤ length props / 4) (below : row < n) (x : NodeRow) (is : IsNode x (nodeAt nodes row)) where
+    module _ (l : m ≤ length props / 4) (x : NodeCells) (is : IsNode x (nodeIn nodes row)) where
       own : IsNode x (at (nodesIn n nodes) row)
-      own = node-read n nodes row x below is
+      own = node-read n nodes row x (used nodes n row u .0) is
 
       raw-is : goal ≡ propertyOf b (nodesIn n nodes) (propertiesIn m props) row name
       unfolding prop-raw lent capacity propertyWidth
@@ -99,3 +107,11 @@ module _ (b nodes : List ℕ) (n : ℕ) (props : List ℕ) (m row : ℕ) (name :
       raw-among e =
           let size : x .first + x .count - x .first ≡ x .count = omega arith in
           sym (raw-is ∙ then-ok _ _ (check-ok _ (rw (← own .first, ← own .count, properties-length, e))) (rw (← own .first, ← own .count, size)))
+
+-- ---- the value itself
+
+-- an answer that tells no part
+pub no-part : (b : List ℕ) (r : Value) (m : Outcome Span) → valueNumbers r ≡ numbers place m → (tagOf the-type r ≡ 1) ⊎ (tagOf the-type r ≡ 2) → [] ≡ orEmpty (bytesIn b m)
+no-part b (value.Part start len) m e k = absurd (⊎-elim (λ z. omega (arith, z)) (λ z. omega (arith, z)) k)
+no-part b value.Nothing m e k = bytes-none b (value-nothing m e refl)
+no-part b value.Unusable m e k = bytes-none b (value-unusable m e refl)

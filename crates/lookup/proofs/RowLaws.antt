@@ -12,14 +12,13 @@ use borrow.Author.Tests.{eqb-true, eqb-false, ne-eqb, le-ltb, lt-ltb, le-leb}
 use Rattle.format.specs.Choice.{if_then_else_}
 use Rattle.format.specs.Bytes.{part}
 use Rattle.format.specs.Format.{NONE, nodeWidth, propertyWidth}
-use Rattle.format.specs.Rows.{at, nodesIn, propertiesIn}
-use Rattle.format.specs.Rows as rows
+use Rattle.format.specs.Rows.{NodeRow, at, propertyAt, nodesIn, propertiesIn}
 use Rattle.format.specs.Lookup.{linkGood, linksGood}
 use Rattle.format.proofs.Tools.{tested, if-yes, if-no}
 use Rattle.format.proofs.Reached.{follows}
-use Rattle.lookup.specs.Places.{nodeAt, propertyAt, IsNode, IsProperty}
-use Rattle.lookup.specs.declared.judge.NodeRow.{NodeRow}
-use Rattle.lookup.specs.declared.judge.PropRow.{PropRow}
+use Rattle.lookup.specs.Places.{nodeIn, propertyIn, IsNode, IsProperty}
+use Rattle.lookup.specs.declared.judge.NodeCells.{NodeCells}
+use Rattle.lookup.specs.declared.judge.PropertyCells.{PropertyCells}
 
 -- ---- rows by their places
 
@@ -31,8 +30,8 @@ unfolding nodesIn
 nodes-length zero t = refl
 nodes-length (suc n) t = ap suc (nodes-length n (drop nodeWidth t))
 
-node-shift : (t : List ℕ) (r : ℕ) → nodeAt (drop nodeWidth t) r ≡ nodeAt t (suc r)
-unfolding nodeAt nodeWidth
+node-shift : (t : List ℕ) (r : ℕ) → nodeIn (drop nodeWidth t) r ≡ nodeIn t (suc r)
+unfolding nodeIn nodeWidth
 node-shift t r =
     let e₀ = moved t 7 (7 * r) (7 * suc r) (omega arith) in
     let e₁ = moved t 7 (7 * r + 1) (7 * suc r + 1) (omega arith) in
@@ -43,8 +42,8 @@ node-shift t r =
     let e₆ = moved t 7 (7 * r + 6) (7 * suc r + 6) (omega arith) in
     cc
 
-pub node-is : (n : ℕ) (t : List ℕ) (r : ℕ) → r < n → at (nodesIn n t) r ≡ nodeAt t r
-unfolding nodesIn at nodeAt nodeWidth
+pub node-is : (n : ℕ) (t : List ℕ) (r : ℕ) → r < n → at (nodesIn n t) r ≡ nodeIn t r
+unfolding nodesIn at nodeIn nodeWidth
 node-is zero t r h = absurd (omega arith)
 node-is (suc n) t zero h = refl
 node-is (suc n) t (suc r) h = node-is n (drop 7 t) r (omega arith) ∙ node-shift t r
@@ -54,8 +53,8 @@ unfolding propertiesIn
 properties-length zero t = refl
 properties-length (suc n) t = ap suc (properties-length n (drop propertyWidth t))
 
-property-shift : (t : List ℕ) (k : ℕ) → propertyAt (drop propertyWidth t) k ≡ propertyAt t (suc k)
-unfolding propertyAt propertyWidth
+property-shift : (t : List ℕ) (k : ℕ) → propertyIn (drop propertyWidth t) k ≡ propertyIn t (suc k)
+unfolding propertyIn propertyWidth
 property-shift t k =
     let e₀ = moved t 4 (4 * k) (4 * suc k) (omega arith) in
     let e₁ = moved t 4 (4 * k + 1) (4 * suc k + 1) (omega arith) in
@@ -63,8 +62,8 @@ property-shift t k =
     let e₃ = moved t 4 (4 * k + 3) (4 * suc k + 3) (omega arith) in
     cc
 
-pub property-is : (n : ℕ) (t : List ℕ) (k : ℕ) → k < n → rows.propertyAt (propertiesIn n t) k ≡ propertyAt t k
-unfolding propertiesIn rows.propertyAt propertyAt propertyWidth
+pub property-is : (n : ℕ) (t : List ℕ) (k : ℕ) → k < n → propertyAt (propertiesIn n t) k ≡ propertyIn t k
+unfolding propertiesIn propertyAt propertyIn propertyWidth
 property-is zero t k h = absurd (omega arith)
 property-is (suc n) t zero h = refl
 property-is (suc n) t (suc k) h = property-is n (drop 4 t) k (omega arith) ∙ property-shift t k
@@ -74,16 +73,35 @@ pub part-at : (t : List ℕ) (p n i k : ℕ) → i < n → p + i ≡ k → getD 
 unfolding part
 part-at t p n i k h e = getD-take n (drop p t) i 0 h ∙ moved t p i k e
 
+-- where `node_at` reads them
+pub record Cells (t : List ℕ) (r : ℕ) : Type 0 where
+  pub name : getD (part t (6 * r) (length t - 6 * r)) r 0 ≡ getD t (7 * r) 0
+  pub len : getD (part t (6 * r) (length t - 6 * r)) (r + 1) 0 ≡ getD t (7 * r + 1) 0
+  pub child : getD (part t (6 * r) (length t - 6 * r)) (r + 3) 0 ≡ getD t (7 * r + 3) 0
+  pub next : getD (part t (2 * r) (length t - 2 * r)) (5 * r + 4) 0 ≡ getD t (7 * r + 4) 0
+  pub first : getD (part t (6 * r) (length t - 6 * r)) (r + 5) 0 ≡ getD t (7 * r + 5) 0
+  pub count : getD (part t (6 * r) (length t - 6 * r)) (r + 6) 0 ≡ getD t (7 * r + 6) 0
+
+pub cells : (t : List ℕ) (r : ℕ) → 7 * (r + 1) ≤ length t → Cells t r
+cells t r h = record {
+  name = part-at t (6 * r) (length t - 6 * r) r _ (omega arith) (omega arith);
+  len = part-at t (6 * r) (length t - 6 * r) (r + 1) _ (omega arith) (omega arith);
+  child = part-at t (6 * r) (length t - 6 * r) (r + 3) _ (omega arith) (omega arith);
+  next = part-at t (2 * r) (length t - 2 * r) (5 * r + 4) _ (omega arith) (omega arith);
+  first = part-at t (6 * r) (length t - 6 * r) (r + 5) _ (omega arith) (omega arith);
+  count = part-at t (6 * r) (length t - 6 * r) (r + 6) _ (omega arith) (omega arith);
+}
+
 -- the numbers that were read are the row's
-pub node-read : (n : ℕ) (t : List ℕ) (r : ℕ) (x : NodeRow) → r < n → IsNode x (nodeAt t r) → IsNode x (at (nodesIn n t) r)
+pub node-read : (n : ℕ) (t : List ℕ) (r : ℕ) (x : NodeCells) → r < n → IsNode x (nodeIn t r) → IsNode x (at (nodesIn n t) r)
 node-read n t r x h is = rw (node-is n t r h) is
 
-pub property-read : (n : ℕ) (t : List ℕ) (k : ℕ) (x : PropRow) → k < n → IsProperty x (propertyAt t k) → IsProperty x (rows.propertyAt (propertiesIn n t) k)
+pub property-read : (n : ℕ) (t : List ℕ) (k : ℕ) (x : PropertyCells) → k < n → IsProperty x (propertyIn t k) → IsProperty x (propertyAt (propertiesIn n t) k)
 property-read n t k x h is = rw (property-is n t k h) is
 
 -- ---- links
 
-module _ (R : List rows.NodeRow) where
+module _ (R : List NodeRow) where
   -- where a good link leads
   pub leads : (r l : ℕ) → linkGood R r l ≡ true → l ≢ NONE → (r < l) × (l < length R)
   leads r l e n = ⊎-elim (λ same. absurd (n same)) (λ k. (k .above, k .inside)) (follows [] R r l e)
@@ -119,7 +137,7 @@ unfoldable pub ahead : ℕ → ℕ → ℕ
 ahead n link = if eqb link NONE then 0 else (n - link)
 
 -- fewer from link to link
-pub fewer-ahead : (R : List rows.NodeRow) (r l : ℕ) → r ≢ NONE → r < length R → linkGood R r l ≡ true → ahead (length R) l < ahead (length R) r
+pub fewer-ahead : (R : List NodeRow) (r l : ℕ) → r ≢ NONE → r < length R → linkGood R r l ≡ true → ahead (length R) l < ahead (length R) r
 unfolding ahead
 fewer-ahead R r l some h e =
     let here : (if eqb r NONE then 0 else (length R - r)) ≡ length R - r = if-no _ _ (ne-eqb r NONE some) in

@@ -7,17 +7,19 @@ ghost use mathlib.Core.List.{List};
 ghost use lib.Dec.{leb};
 ghost use lib.ListN.{length};
 ghost use Prim.Native.Nat.{ℕ};
+ghost use Rattle.format.specs.Bytes.{part};
+ghost use Rattle.format.specs.Find.{same};
 ghost use Rattle.format.specs.Format.{NONE as none, nodeWidth, propertyWidth};
-ghost use Rattle.format.specs.Rows as rows;
-ghost use Rattle.format.specs.Lookup.{linkGood, linksGood, nameInside};
-ghost use Rattle.lookup.specs.Places.{IsNode, IsProperty, nodeAt, propertyAt};
+ghost use Rattle.format.specs.Rows.{NodeRow, at};
+ghost use Rattle.format.specs.Lookup.{linkGood, linksGood, nameInside, usable};
+ghost use Rattle.lookup.specs.Places.{IsNode, IsProperty, nodeIn, propertyIn};
 use format::NODE_WIDTH;
 use format::NONE;
 use format::PROPERTY_WIDTH;
 use std::num::wrapping_add_u32;
 
 // The numbers of a node row that a lookup reads.
-pub(crate) struct NodeRow {
+pub(crate) struct NodeCells {
     pub(crate) name: u32,
     pub(crate) len: u32,
     pub(crate) child: u32,
@@ -27,7 +29,7 @@ pub(crate) struct NodeRow {
 }
 
 // The numbers of a property row.
-pub(crate) struct PropRow {
+pub(crate) struct PropertyCells {
     pub(crate) name: u32,
     pub(crate) len: u32,
     pub(crate) value: u32,
@@ -36,13 +38,13 @@ pub(crate) struct PropRow {
 
 // A row's place is seven times its number. The next link's is two sums that the processor makes side by side, as a search waits for it
 // at every row; the others' follow each other.
-pub(crate) fn node_at(nodes: &[u32], row: usize) -> NodeRow
+pub(crate) fn node_at(nodes: &[u32], row: usize) -> NodeCells
     requires { ⌜ nodeWidth * (row + 1) ≤ length (now nodes) ⌝ }
-    ensures { λ r. ⌜ IsNode r (nodeAt (now (nodes .entry)) row) ⌝ }
+    ensures { λ r. ⌜ IsNode r (nodeIn (now (nodes .entry)) row) ⌝ }
 {
     let link = &nodes[2 * row..];
     let part = &nodes[(NODE_WIDTH - 1) * row..];
-    NodeRow {
+    NodeCells {
         name: part[row],
         len: part[row + 1],
         child: part[row + 3],
@@ -52,12 +54,12 @@ pub(crate) fn node_at(nodes: &[u32], row: usize) -> NodeRow
     }
 }
 
-pub(crate) fn prop_at(props: &[u32], row: usize) -> PropRow
+pub(crate) fn prop_at(props: &[u32], row: usize) -> PropertyCells
     requires { ⌜ propertyWidth * (row + 1) ≤ length (now props) ⌝ }
-    ensures { λ r. ⌜ IsProperty r (propertyAt (now (props .entry)) row) ⌝ }
+    ensures { λ r. ⌜ IsProperty r (propertyIn (now (props .entry)) row) ⌝ }
 {
     let at = PROPERTY_WIDTH * row;
-    PropRow {
+    PropertyCells {
         name: props[at],
         len: props[at + 1],
         value: props[at + 2],
@@ -65,9 +67,19 @@ pub(crate) fn prop_at(props: &[u32], row: usize) -> PropRow
     }
 }
 
+// Whether so many rows are there, and that row is one of them.
+pub(crate) fn usable(nodes: &[u32], count: usize, row: usize) -> bool
+    ensures { λ r. ⌜ r ≡ usable (now (nodes .entry)) count row ⌝ }
+{
+    if nodes.len() / NODE_WIDTH < count {
+        return false;
+    }
+    row < count
+}
+
 // Whether a link of the row is none, or a later row below the count.
 fn link_is_good(link: u32, row: usize, count: usize) -> bool
-    ensures { λ r. ⌜ ((R : List rows.NodeRow) → length R ≡ count → r ≡ linkGood R row link) ⌝ }
+    ensures { λ r. ⌜ ((R : List NodeRow) → length R ≡ count → r ≡ linkGood R row link) ⌝ }
 {
     if link == NONE {
         return true;
@@ -83,7 +95,7 @@ fn link_is_good(link: u32, row: usize, count: usize) -> bool
 // need not guess whether there is one.
 fn leads_on(link: u32, row: u32, count: usize) -> bool
     requires { ⌜ row ≢ none ⌝ }
-    ensures { λ r. ⌜ ((R : List rows.NodeRow) → length R ≡ count → r ≡ linkGood R row link) ⌝ }
+    ensures { λ r. ⌜ ((R : List NodeRow) → length R ≡ count → r ≡ linkGood R row link) ⌝ }
 {
     if link <= row {
         return false;
@@ -92,8 +104,8 @@ fn leads_on(link: u32, row: u32, count: usize) -> bool
 }
 
 // Whether both links of the row are good.
-pub(crate) fn links_are_good(node: NodeRow, row: usize, count: usize) -> bool
-    ensures { λ r. ⌜ ((R : List rows.NodeRow) → length R ≡ count → IsNode node (rows.at R row) → r ≡ linksGood R row) ⌝ }
+pub(crate) fn links_are_good(node: NodeCells, row: usize, count: usize) -> bool
+    ensures { λ r. ⌜ ((R : List NodeRow) → length R ≡ count → IsNode node (at R row) → r ≡ linksGood R row) ⌝ }
 {
     if !link_is_good(node.child, row, count) {
         return false;
@@ -109,9 +121,9 @@ pub(crate) fn lies_in(start: u32, len: u32, whole: usize) -> bool
 }
 
 // Whether both links are good and the name lies in a blob of that length. The next row's number is read first: what follows waits for it.
-pub(crate) fn row_is_good(node: NodeRow, row: u32, count: usize, whole: usize) -> bool
+pub(crate) fn row_is_good(node: NodeCells, row: u32, count: usize, whole: usize) -> bool
     requires { ⌜ row ≢ none ⌝ }
-    ensures { λ r. ⌜ ((b : List ℕ) (R : List rows.NodeRow) → length b ≡ whole → length R ≡ count → IsNode node (rows.at R row)
+    ensures { λ r. ⌜ ((b : List ℕ) (R : List NodeRow) → length b ≡ whole → length R ≡ count → IsNode node (at R row)
         → r ≡ (linksGood R row && nameInside b R row)) ⌝ }
 {
     if !leads_on(node.next, row, count) {
@@ -121,4 +133,13 @@ pub(crate) fn row_is_good(node: NodeRow, row: u32, count: usize, whole: usize) -
         return false;
     }
     lies_in(node.name, node.len, whole)
+}
+
+// Whether that part of s is t.
+pub(crate) fn same_part(s: &[u8], start: u32, len: u32, t: &[u8]) -> bool
+    requires { ⌜ start + len ≤ length (now s) ⌝ }
+    ensures { λ r. ⌜ r ≡ same (part (now (s .entry)) start len) (now (t .entry)) ⌝ }
+{
+    let from = start as usize;
+    names::same(&s[from..from + len as usize], t)
 }

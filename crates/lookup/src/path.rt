@@ -1,22 +1,22 @@
 // Looking up a path: `DeviceTree::find` and `Node::find`.
 ghost use mathlib.Core.Path.{_≡_};
-ghost use Prim.Native.Nat.{ℕ, _*_, _≤_, _<_};
+ghost use Prim.Native.Nat.{_*_, _≤_, _<_};
 ghost use lib.ListN.{length};
-ghost use Rattle.format.specs.Answer.{Outcome, numbers, itself};
+ghost use Rattle.format.specs.Answer.{numbers, itself};
 ghost use Rattle.format.specs.Format.{nodeWidth};
 ghost use Rattle.format.specs.Rows.{nodesIn};
 ghost use Rattle.format.specs.Lookup.{reach, find-from};
 ghost use Rattle.format.specs.Lookup as lookup;
 ghost use Rattle.lookup.specs.Answers.{foundNumbers, foundOutcome};
-ghost use Rattle.lookup.specs.Places.{Linked, Kids, ChildGives};
+ghost use Rattle.lookup.specs.Places.{JudgedLink, ChildGives};
 use crate::Found;
 use crate::judge::links_are_good;
 use crate::judge::node_at;
 use crate::judge::row_is_good;
-use crate::names::name_end;
-use crate::names::same_part;
-use format::NODE_WIDTH;
+use crate::judge::same_part;
+use crate::judge::usable;
 use format::NONE;
+use names::name_end;
 
 // A child that was found: its row, and the link to its own first child.
 enum Child {
@@ -27,9 +27,8 @@ enum Child {
 
 // The first of the children, whose first is `first`, of that name.
 fn child_named(s: &[u8], nodes: &[u32], count: usize, first: u32, name: &[u8]) -> Child
-    requires { ⌜ Linked (now nodes) count first ⌝ }
-    ensures { λ r. ⌜ ((goal : Outcome ℕ) (low : ℕ) → Kids (now (s .entry)) (nodesIn count (now (nodes .entry))) goal (now (name .entry)) low first
-        → ChildGives (nodesIn count (now (nodes .entry))) goal r) ⌝ }
+    requires { ⌜ JudgedLink (now nodes) count first ⌝ }
+    ensures { λ r. ⌜ ChildGives (now (s .entry)) (nodesIn count (now (nodes .entry))) first (now (name .entry)) r ⌝ }
 {
     let mut link = first;
     'children: loop {
@@ -82,10 +81,7 @@ fn walk(s: &[u8], nodes: &[u32], count: usize, from: usize, path: &[u8]) -> Foun
 pub fn find_from(b: &[u8], nodes: &[u32], count: usize, row: usize, path: &[u8]) -> Found
     ensures { λ r. ⌜ foundNumbers r ≡ numbers itself (find-from (now (b .entry)) (now (nodes .entry)) count row (now (path .entry))) ⌝ }
 {
-    if nodes.len() / NODE_WIDTH < count {
-        return Found::Unusable;
-    }
-    if count <= row {
+    if !usable(nodes, count, row) {
         return Found::Unusable;
     }
     walk(b, nodes, count, row, path)
@@ -95,10 +91,7 @@ pub fn find_from(b: &[u8], nodes: &[u32], count: usize, row: usize, path: &[u8])
 pub fn find(b: &[u8], nodes: &[u32], count: usize, path: &[u8]) -> Found
     ensures { λ r. ⌜ foundNumbers r ≡ numbers itself (lookup.find (now (b .entry)) (now (nodes .entry)) count (now (path .entry))) ⌝ }
 {
-    if nodes.len() / NODE_WIDTH < count {
-        return Found::Unusable;
-    }
-    if count == 0 {
+    if !usable(nodes, count, 0) {
         return Found::Unusable;
     }
     if path.len() == 0 {

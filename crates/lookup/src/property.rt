@@ -13,8 +13,8 @@ use crate::Value;
 use crate::judge::lies_in;
 use crate::judge::node_at;
 use crate::judge::prop_at;
-use crate::names::same_part;
-use format::NODE_WIDTH;
+use crate::judge::same_part;
+use crate::judge::usable;
 use format::PROPERTY_WIDTH;
 
 // The first property of that name among the rows from `from` up to `end`.
@@ -54,10 +54,7 @@ pub fn prop_raw(
 ) -> Value
     ensures { λ r. ⌜ valueNumbers r ≡ numbers place (prop-raw (now (b .entry)) (lent (now (nodes .entry)) count (now (props .entry)) many) row (now (name .entry))) ⌝ }
 {
-    if nodes.len() / NODE_WIDTH < count {
-        return Value::Unusable;
-    }
-    if count <= row {
+    if !usable(nodes, count, row) {
         return Value::Unusable;
     }
     if props.len() / PROPERTY_WIDTH < many {
@@ -104,7 +101,6 @@ pub fn prop_raw_part<'a>(
 {
     match prop_raw(b, nodes, count, props, many, row, name) {
         Value::Part { start, len } => &b[start..start + len],
-        Value::Nothing => &b[0..0],
-        Value::Unusable => &b[0..0],
+        _ => &b[0..0],
     }
 }

@@ -2,12 +2,12 @@
 use mathlib.Core.Path.{refl}
 use borrow.Author.Needs.{needs}
 use Rattle.format.specs.Format.{propertyWidth}
-use Rattle.lookup.specs.Places.{propertyAt}
+use Rattle.lookup.specs.Places.{propertyIn}
 use Rattle.lookup.proofs.judge.prop_at.Statement.{statement}
 use Rattle.lookup.proofs.judge.prop_at.Tie as tie
 
 returns : tie.Need-returns
-unfolding propertyAt propertyWidth
+unfolding propertyIn propertyWidth
 returns c = record { name = refl; len = refl; value = refl; size = refl }
 
 pub prop-at-spec : {M : Type 1} → statement M

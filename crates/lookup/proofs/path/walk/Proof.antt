@@ -3,17 +3,22 @@
 use borrow.Author.Needs.{needs}
 use borrow.Author.Tests.{not-true, not-false}
 use native.Mathlib.Omega.{arith}
-use mathlib.Core.Path.{refl, sym, _∙_}
-use Prim.Native.Nat.{_≤_}
+use mathlib.Core.Path.{_≡_, refl, sym, _∙_}
+use mathlib.Core.List.{List}
+use Prim.Native.Nat.{ℕ, _-_, _≤_}
 use lib.ListN.{length, length-drop}
+use denote.Ref.{now}
+use Rattle.format.specs.Answer.{Refusal, Outcome, refused}
 use Rattle.format.specs.Bytes.{part}
+use Rattle.format.specs.Find as text
 use Rattle.format.specs.Format.{nodeWidth}
-use Rattle.format.specs.Rows.{nodesIn}
-use Rattle.format.specs.Lookup.{reach}
+use Rattle.format.specs.Rows.{NodeRow, at, nodesIn}
+use Rattle.format.specs.Lookup.{linksGood, reach}
 use Rattle.lookup.specs.Answers.{foundOutcome}
+use Rattle.lookup.specs.Places.{IsNode, childFrom}
 use Rattle.lookup.proofs.RowLaws.{nodes-length, node-read}
-use Rattle.lookup.proofs.NameLaws.{name-lent, rest-lent}
-use Rattle.lookup.proofs.PathLaws.{Way, reach-bad, way-start, way-end, way-refused, way-down, kids-begin, gives-at, gives-nothing, gives-unusable}
+use Rattle.lookup.proofs.NameLaws.{name-inside, rest-later, name-lent, rest-lent}
+use Rattle.lookup.proofs.PathLaws.{Way, reach-bad, way-start, way-end, way-refused, way-down, gives-at, gives-nothing, gives-unusable}
 use Rattle.lookup.proofs.path.walk.Statement.{statement}
 use Rattle.lookup.proofs.path.walk.Tie as tie
 
@@ -24,80 +29,109 @@ Inv-loop s nodes count from path first₀ row₀ rest₀ first row rest =
 abbrev μ-loop : tie.MeasureT-loop
 μ-loop s nodes count from path first₀ row₀ rest₀ first row rest = length rest
 
+-- ---- what is known on the way
+
+abbrev Begun : Type 0
+Begun = tie.Start Inv-loop μ-loop
+
+abbrev rowsOf : Begun → List NodeRow
+rowsOf c = nodesIn (c .args .count) (now (c .args .nodes))
+
+abbrev goal : Begun → Outcome ℕ
+goal c = reach (now (c .args .s)) (rowsOf c) (c .args .from) (now (c .args .path))
+
+-- the starting row was read
+abbrev begun : tie.After-node-at Inv-loop μ-loop → Begun
+begun c = c .before .before .before .before
+
+own : (c : tie.After-node-at Inv-loop μ-loop) → IsNode (c .node-at .result) (at (rowsOf (begun c)) (begun c .args .from))
+own c = node-read _ _ _ _ (begun c .pre .0) (c .node-at .ensures)
+
+-- and judged
+judged : (c : tie.After-links-are-good Inv-loop μ-loop) → c .links-are-good .result ≡ linksGood (rowsOf (begun (c .before))) (begun (c .before) .args .from)
+judged c = c .links-are-good .ensures _ (nodes-length _ _) (own (c .before))
+
+-- a turn
+abbrev start : tie.At-loop Inv-loop μ-loop → Begun
+start c = begun (c .before .before .before)
+
+abbrev name : tie.After-name-end Inv-loop μ-loop → List ℕ
+name c = part (now (c .before .before .loop .rest)) 0 (c .name-end .result - 0)
+
+abbrev Sought : tie.After-name-end Inv-loop μ-loop → Outcome ℕ
+Sought c =
+    let top = c .before .before in
+    childFrom (now (start top .args .s)) (rowsOf (start top)) (length (rowsOf (start top))) (top .loop .first) (name c)
+
+no-child : (c : tie.After-name-end Inv-loop μ-loop) (r : Refusal) → Sought c ≡ refused r → refused r ≡ goal (start (c .before .before))
+no-child c r e = way-refused _ _ _ _ _ _ (c .before .before .loop .inv .1) (c .before .loop-test .taken) _ _ (name-lent _ _ (c .name-end .ensures)) refl r e
+
+-- a child was found
+a-child : (c : tie.After-child Inv-loop μ-loop) (later : List ℕ) → text.rest (now (c .before .before .before .before .before .before .loop .rest)) ≡ later
+    → Way
+    (now (start (c .before .before .before .before .before .before) .args .s))
+    (rowsOf (start (c .before .before .before .before .before .before)))
+    (goal (start (c .before .before .before .before .before .before)))
+    (c .child .given .0 .0)
+    (c .child .given .0 .1 .0)
+    later
+unfolding part
+a-child c later e =
+    let call = c .before .before in
+    let named = call .before .before in
+    let is = gives-at _ _ _ _ (call .child-named .ensures) (c .child .given .1) in
+    way-down _ _ _ _ _ _ (named .before .before .loop .inv .1) (named .before .loop-test .taken) _ _ (name-lent _ _ (named .name-end .ensures)) e _ _ (is .0) (is .1)
+
+-- ---- the needs
+
 node-at-requires : tie.Need-node-at-requires Inv-loop μ-loop
 unfolding nodeWidth
-node-at-requires c κs =
-    let st = c .before .before .before in
-    omega (arith, st .pre)
+node-at-requires c κs = omega (arith, c .before .before .before .pre)
 
 returns : tie.Need-returns Inv-loop μ-loop
 unfolding foundOutcome
-returns c =
-    let read = c .before .before in
-    let st = read .before .before .before .before in
-    let is = node-read _ _ _ _ (st .pre .0) (read .node-at .ensures) in
-    reach-bad _ _ _ _ (sym (c .before .links-are-good .ensures _ (nodes-length _ _) is) ∙ not-true _ (c .if1 .taken))
+returns c = reach-bad _ _ _ _ (sym (judged (c .before)) ∙ not-true _ (c .if1 .taken))
 
 loop-holds : tie.Need-loop-holds Inv-loop μ-loop
 loop-holds c =
     let read = c .before .before in
-    let st = read .before .before .before .before in
-    let is = node-read _ _ _ _ (st .pre .0) (read .node-at .ensures) in
-    (omega arith, way-start _ _ _ _ _ (rw nodes-length (st .pre .0)) (sym (c .before .links-are-good .ensures _ (nodes-length _ _) is) ∙ not-false _ (c .if1 .left)) is)
+    (omega arith, way-start _ _ _ _ _ (rw nodes-length (begun read .pre .0)) (sym (judged (c .before)) ∙ not-false _ (c .if1 .left)) (own read))
 
 child-named-requires : tie.Need-child-named-requires Inv-loop μ-loop
 child-named-requires c κs =
-    let lo = c .before .before .before in
-    let st = lo .before .before .before .before .before .before .before in
-    record { low = lo .loop .row; below = rw nodes-length at (lo .loop .inv .1 .there); room = st .pre .1; good = lo .loop .inv .1 .good }
+    let top = c .before .before .before in
+    let way = top .loop .inv .1 in
+    record { low = top .loop .row; below = rw nodes-length at (way .there); room = start top .pre .1; good = way .good }
 
 returns-2 : tie.Need-returns-2 Inv-loop μ-loop
 unfolding foundOutcome part
 returns-2 c =
     let call = c .before .before in
-    let named = call .before .before in
-    let turn = named .before in
-    let way = turn .before .loop .inv .1 in
-    way-refused _ _ _ _ _ _ way (turn .loop-test .taken) _ _ (name-lent _ _ (named .name-end .ensures)) refl _
-    (gives-nothing _ _ (call .child-named .ensures _ _ (kids-begin _ _ _ _ _ (way .there) (way .good))) (c .enum-told .given .1))
+    no-child (call .before .before) _ (gives-nothing _ _ _ _ (call .child-named .ensures) (c .enum-told .given .1))
 
 returns-3 : tie.Need-returns-3 Inv-loop μ-loop
 unfolding foundOutcome part
 returns-3 c =
     let call = c .before .before in
-    let named = call .before .before in
-    let turn = named .before in
-    let way = turn .before .loop .inv .1 in
-    way-refused _ _ _ _ _ _ way (turn .loop-test .taken) _ _ (name-lent _ _ (named .name-end .ensures)) refl _
-    (gives-unusable _ _ (call .child-named .ensures _ _ (kids-begin _ _ _ _ _ (way .there) (way .good))) (c .enum-told2 .given .1))
+    no-child (call .before .before) _ (gives-unusable _ _ _ _ (call .child-named .ensures) (c .enum-told2 .given .1))
 
 returns-4 : tie.Need-returns-4 Inv-loop μ-loop
-unfolding foundOutcome part
+unfolding foundOutcome
 returns-4 c =
     let told = c .before .before in
-    let call = told .before .before in
-    let named = call .before .before in
-    let turn = named .before in
-    let way = turn .before .loop .inv .1 in
-    let is = gives-at _ _ (call .child-named .ensures _ _ (kids-begin _ _ _ _ _ (way .there) (way .good))) (told .child .given .1) in
-    way-end _ _ _ _ _ _ (way-down _ _ _ _ _ _ way (turn .loop-test .taken) _ _ (name-lent _ _ (named .name-end .ensures)) (named .name-end .ensures .later) _ _ (is .0) (is .1)) (rw length-drop (omega (arith, c .if2 .taken)))
+    way-end _ _ _ _ _ _ (a-child told _ (rest-later _ _ (told .before .before .before .before .name-end .ensures))) (rw length-drop (omega (arith, c .if2 .taken)))
+
+add-rest : tie.Need-add-rest Inv-loop μ-loop
+add-rest c =
+    let top = c .before .before .before .before .before .before .before .before in
+    omega (arith, c .if2 .left, top .loop .inv .0, start top .good .1 .1 .1 .1 .0 .0)
 
 loop-again : tie.Need-loop-again Inv-loop μ-loop
 unfolding part
 loop-again c =
     let told = c .before .before .before in
-    let call = told .before .before in
-    let named = call .before .before in
-    let turn = named .before in
-    let way = turn .before .loop .inv .1 in
-    let is = gives-at _ _ (call .child-named .ensures _ _ (kids-begin _ _ _ _ _ (way .there) (way .good))) (told .child .given .1) in
-    (omega (arith, c .rest .given .2, turn .before .loop .inv .0), way-down _ _ _ _ _ _ way (turn .loop-test .taken) _ _ (name-lent _ _ (named .name-end .ensures)) (rest-lent _ _ (named .name-end .ensures)) _ _ (is .0) (is .1))
-
-add-rest : tie.Need-add-rest Inv-loop μ-loop
-add-rest c =
-    let lo = c .before .before .before .before .before .before .before .before in
-    let st = lo .before .before .before .before .before .before .before in
-    omega (arith, c .if2 .left, lo .loop .inv .0, st .good .1 .1 .1 .1 .0 .0)
+    let named = told .before .before .before .before in
+    (omega (arith, c .rest .given .2, named .before .before .loop .inv .0), a-child told _ (rest-lent _ _ (named .name-end .ensures)))
 
 returns-5 : tie.Need-returns-5 Inv-loop μ-loop
 unfolding foundOutcome
@@ -116,7 +150,7 @@ walk-spec =
     (λ c κs. search needs)
     (λ c. search needs)
     (λ c. search needs)
-    (λ c. c .name-end .ensures .inside)
+    (λ c. name-inside _ _ (c .name-end .ensures))
     child-named-requires
     (λ c. search needs)
     (λ c. search needs)

@@ -1,40 +1,26 @@
--- `prop_raw_part` meets its contract: the part that `prop_raw` tells the place of. Assumes nothing.
+-- `prop_raw_part` meets its contract: the part that `prop_raw` tells the place of, which lies in the blob. Assumes nothing.
 use Prim.Native.Nat.{_+_, _-_, _≤_}
 use native.Mathlib.Omega.{arith}
 use borrow.Author.Needs.{needs}
 use denote.Ref.{now}
 use lib.ListN.{length}
-use Rattle.lookup.proofs.Outcomes.{value-part, value-nothing, value-unusable}
-use Rattle.format.proofs.Inside.{raw-inside, bytes-there, bytes-none}
+use Rattle.format.proofs.Inside.{bytes-there}
+use Rattle.lookup.proofs.Outcomes.{value-part, value-inside}
+use Rattle.lookup.proofs.PropertyLaws.{no-part}
 use Rattle.lookup.proofs.property.prop_raw_part.Statement.{statement}
 use Rattle.lookup.proofs.property.prop_raw_part.Tie as tie
 
-add-result : tie.Need-add-result
-add-result c =
-    let found = c .before .start .given in
-    let call = c .before .before .before in
-    let a = call .before .before .before .before .before .args in
-    let fits : found .0 .0 + found .0 .1 .0 ≤ length (now (a .b)) = raw-inside (now (a .b)) _ (a .row) (now (a .name)) _ (value-part _ (call .prop-raw .ensures) (found .1)) in
-    omega arith
+abbrev begun : tie.After-prop-raw → tie.Start
+begun c = c .before .before .before .before .before
 
-part-result-end : tie.Need-part-result-end
-part-result-end c =
-    let found = c .before .start .given in
-    let call = c .before .before .before in
-    let a = call .before .before .before .before .before .args in
-    let fits : found .0 .0 + found .0 .1 .0 ≤ length (now (a .b)) = raw-inside (now (a .b)) _ (a .row) (now (a .name)) _ (value-part _ (call .prop-raw .ensures) (found .1)) in
-    omega arith
+fits : (c : tie.After-start) → c .start .given .0 .0 + c .start .given .0 .1 .0 ≤ length (now (begun (c .before .before) .args .b))
+fits c = value-inside _ _ _ _ (c .before .before .prop-raw .ensures) (c .start .given .1)
 
 returns : tie.Need-returns
 returns c =
-    let found = c .before .before .start .given in
-    bytes-there _ (value-part _ (c .before .before .before .before .prop-raw .ensures) (found .1)) (found .0 .0 + found .0 .1 .0 - found .0 .0) (omega arith)
-
-returns-2 : tie.Need-returns-2
-returns-2 c = bytes-none _ (value-nothing _ (c .before .before .before .prop-raw .ensures) (c .before .enum-told .given .1))
-
-returns-3 : tie.Need-returns-3
-returns-3 c = bytes-none _ (value-unusable _ (c .before .before .before .prop-raw .ensures) (c .before .enum-told2 .given .1))
+    let found = c .before .before in
+    let start = found .start .given .0 .0 in
+    bytes-there _ (value-part _ (found .before .before .prop-raw .ensures) (found .start .given .1)) (start + found .start .given .0 .1 .0 - start) (omega arith)
 
 pub prop-raw-part-spec : {M : Type 1} → statement M
 prop-raw-part-spec =
@@ -42,18 +28,12 @@ prop-raw-part-spec =
     (tie.spec
     (λ c κs. search needs)
     (λ c. search needs)
-    add-result
+    (λ c. omega (arith, fits (c .before)))
     (λ c. search needs)
     (λ c. search needs)
-    part-result-end
-    (λ c. search needs)
-    (λ c. search needs)
-    (λ c. search needs)
-    (λ c. search needs)
-    (λ c. search needs)
+    (λ c. omega (arith, fits (c .before)))
     (λ c. search needs)
     (λ c. search needs)
     (λ c. search needs)
     returns
-    returns-2
-    returns-3)
+    (λ c. no-part _ _ _ (c .before .before .prop-raw .ensures) (c .before .match .keys2)))

@@ -1,11 +1,10 @@
-// Names: whether two parts are the same bytes, and where the first name of a path ends.
+// Names: whether two are the same, and where the first name of a path ends.
 ghost use mathlib.Core.Path.{_≡_};
 ghost use mathlib.Core.Bool.{false};
 ghost use Prim.Native.Nat.{_+_, _≤_, _<_};
 ghost use lib.ListN.{length};
-ghost use Rattle.format.specs.Bytes.{part};
-ghost use Rattle.format.specs.Find.{same};
-ghost use Rattle.lookup.specs.Places.{NameEnd, Scan, lowest};
+ghost use Rattle.format.specs.Find.{head, same};
+ghost use Rattle.names.specs.Scan.{Scan, lowest};
 
 // How many bytes are compared at once.
 const WORD: usize = 4;
@@ -60,17 +59,14 @@ fn same_bytes(s: &[u8], t: &[u8]) -> bool
     }
 }
 
-// Whether that part of s is t.
-pub(crate) fn same_part(s: &[u8], start: u32, len: u32, t: &[u8]) -> bool
-    requires { ⌜ start + len ≤ length (now s) ⌝ }
-    ensures { λ r. ⌜ r ≡ same (part (now (s .entry)) start len) (now (t .entry)) ⌝ }
+// Whether two names are the same.
+pub fn same(s: &[u8], t: &[u8]) -> bool
+    ensures { λ r. ⌜ r ≡ same (now (s .entry)) (now (t .entry)) ⌝ }
 {
-    let n = len as usize;
-    if n != t.len() {
+    if s.len() != t.len() {
         return false;
     }
-    let from = start as usize;
-    same_bytes(&s[from..from + n], t)
+    same_bytes(s, t)
 }
 
 // Whether one of the four bytes at i is a slash. All are compared, whatever the first ones are: so it is one comparison for the machine.
@@ -96,8 +92,8 @@ fn plain_words(path: &[u8]) -> usize
 }
 
 // The end of the path's first name: the first slash, or the path's end.
-pub(crate) fn name_end(path: &[u8]) -> usize
-    ensures { λ r. ⌜ NameEnd (now (path .entry)) r ⌝ }
+pub fn name_end(path: &[u8]) -> usize
+    ensures { λ r. ⌜ r ≡ length (head (now (path .entry))) ⌝ }
 {
     let mut i = plain_words(path);
     while i < path.len() {

@@ -4,9 +4,9 @@ use borrow.Author.Needs.{needs}
 use native.Mathlib.Omega.{arith}
 use Prim.Native.Nat.{_-_, _≤_}
 use lib.ListN.{length}
-use Rattle.lookup.proofs.NameLaws.{Alike, alike-same, alike-more, byte-differs}
-use Rattle.lookup.proofs.names.same_few.Statement.{statement}
-use Rattle.lookup.proofs.names.same_few.Tie as tie
+use Rattle.names.proofs.NameLaws.{Alike, alike-same, alike-more, byte-differs}
+use Rattle.names.proofs.same_few.Statement.{statement}
+use Rattle.names.proofs.same_few.Tie as tie
 
 abbrev Inv-loop : tie.InvT-loop
 Inv-loop s t i₀ i = (i ≤ length s) × Alike s t i

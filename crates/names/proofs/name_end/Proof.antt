@@ -2,10 +2,10 @@
 use borrow.Author.Needs.{needs}
 use Prim.Native.Nat.{_-_}
 use lib.ListN.{length}
-use Rattle.lookup.specs.Places.{Scan}
-use Rattle.lookup.proofs.NameLaws.{scan-more, scan-slash, scan-end}
-use Rattle.lookup.proofs.names.name_end.Statement.{statement}
-use Rattle.lookup.proofs.names.name_end.Tie as tie
+use Rattle.names.specs.Scan.{Scan}
+use Rattle.names.proofs.NameLaws.{scan-more, scan-slash, scan-end}
+use Rattle.names.proofs.name_end.Statement.{statement}
+use Rattle.names.proofs.name_end.Tie as tie
 
 abbrev Inv-loop : tie.InvT-loop
 Inv-loop path i₀ i = Scan path i

@@ -1,9 +1,9 @@
 -- `slash_in_word` meets its contract: where it says no, each of the four says no. Assumes nothing.
 use borrow.Author.Needs.{needs}
 use borrow.Author.Tests.{eqb-false}
-use Rattle.lookup.proofs.NameLaws.{scan-word, neither}
-use Rattle.lookup.proofs.names.slash_in_word.Statement.{statement}
-use Rattle.lookup.proofs.names.slash_in_word.Tie as tie
+use Rattle.names.proofs.NameLaws.{scan-word, neither}
+use Rattle.names.proofs.slash_in_word.Statement.{statement}
+use Rattle.names.proofs.slash_in_word.Tie as tie
 
 returns : tie.Need-returns
 returns c e =

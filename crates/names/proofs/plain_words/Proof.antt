@@ -2,10 +2,10 @@
 use native.Mathlib.Omega.{arith}
 use Prim.Native.Nat.{_-_}
 use lib.ListN.{length}
-use Rattle.lookup.specs.Places.{Scan}
-use Rattle.lookup.proofs.NameLaws.{scan-start}
-use Rattle.lookup.proofs.names.plain_words.Statement.{statement}
-use Rattle.lookup.proofs.names.plain_words.Tie as tie
+use Rattle.names.specs.Scan.{Scan}
+use Rattle.names.proofs.NameLaws.{scan-start}
+use Rattle.names.proofs.plain_words.Statement.{statement}
+use Rattle.names.proofs.plain_words.Tie as tie
 
 abbrev Inv-loop : tie.InvT-loop
 Inv-loop path i₀ i = Scan path i

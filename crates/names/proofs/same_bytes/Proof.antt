@@ -6,9 +6,9 @@ use mathlib.Core.Path.{sym, _∙_}
 use Prim.Native.Nat.{_+_, _≤_}
 use lib.ListN.{length}
 use Rattle.format.specs.Bytes.{AreBytes}
-use Rattle.lookup.proofs.NameLaws.{Alike, word-alike, word-differs, first-word}
-use Rattle.lookup.proofs.names.same_bytes.Statement.{statement}
-use Rattle.lookup.proofs.names.same_bytes.Tie as tie
+use Rattle.names.proofs.NameLaws.{Alike, word-alike, word-differs, first-word}
+use Rattle.names.proofs.same_bytes.Statement.{statement}
+use Rattle.names.proofs.same_bytes.Tie as tie
 
 abbrev Inv-loop : tie.InvT-loop
 Inv-loop s t i₀ i = (i + 4 ≤ length s) × Alike s t (i + 4)

@@ -1,9 +1,9 @@
 -- `word_of` meets its contract, a byte after the other. Assumes nothing.
 use native.Mathlib.Omega.{arith}
 use borrow.Author.Needs.{needs}
-use Rattle.lookup.specs.Places.{lowest}
-use Rattle.lookup.proofs.names.word_of.Statement.{statement}
-use Rattle.lookup.proofs.names.word_of.Tie as tie
+use Rattle.names.specs.Scan.{lowest}
+use Rattle.names.proofs.word_of.Statement.{statement}
+use Rattle.names.proofs.word_of.Tie as tie
 
 returns : tie.Need-returns
 unfolding lowest

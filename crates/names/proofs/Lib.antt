@@ -1,0 +1,3 @@
+-- Determined is for callers; NameLaws is what the proofs here cite.
+pub mod Determined
+mod NameLaws
