@@ -1,11 +1,11 @@
 // Rows of the tables, and the judgements of a row that is reached.
-ghost use Prim.Native.Nat.{_+_, _*_, _≤_};
+ghost use Prim.Native.Nat.{_+_, _*_, _≤_, _<_};
 ghost use mathlib.Core.Path.{_≡_};
 ghost use mathlib.Core.Bool.{_&&_};
 ghost use mathlib.Core.Logic.{_≢_};
 ghost use mathlib.Core.List.{List};
 ghost use lib.Dec.{leb};
-ghost use lib.ListN.{length};
+ghost use lib.ListN.{length, getD};
 ghost use Prim.Native.Nat.{ℕ};
 ghost use Rattle.format.specs.Bytes.{part};
 ghost use Rattle.format.specs.Find.{same};
@@ -36,6 +36,19 @@ pub(crate) struct PropertyCells {
     pub(crate) size: u32,
 }
 
+// A number of a table.
+fn cell(table: &[u32], at: usize) -> u32
+    requires { ⌜ at < length (now table) ⌝ }
+    ensures { λ r. ⌜ r ≡ getD (now (table .entry)) at 0 ⌝ }
+{
+    table[at]
+}
+
+// A row's width, but for the one or the two times that the row's number is added apart.
+const BUT_ONE: usize = NODE_WIDTH - 1;
+
+const BUT_TWO: usize = NODE_WIDTH - 2;
+
 // A row's place is seven times its number. The next link's is two sums that the processor makes side by side, as a search waits for it
 // at every row; the others' follow each other.
 pub(crate) fn node_at(nodes: &[u32], row: usize) -> NodeCells
@@ -43,14 +56,14 @@ pub(crate) fn node_at(nodes: &[u32], row: usize) -> NodeCells
     ensures { λ r. ⌜ IsNode r (nodeIn (now (nodes .entry)) row) ⌝ }
 {
     let link = &nodes[2 * row..];
-    let part = &nodes[(NODE_WIDTH - 1) * row..];
+    let part = &nodes[BUT_ONE * row..];
     NodeCells {
-        name: part[row],
-        len: part[row + 1],
-        child: part[row + 3],
-        next: link[(NODE_WIDTH - 2) * row + 4],
-        first: part[row + 5],
-        count: part[row + 6],
+        name: cell(part, row),
+        len: cell(part, row + 1),
+        child: cell(part, row + 3),
+        next: cell(link, BUT_TWO * row + 4),
+        first: cell(part, row + 5),
+        count: cell(part, row + 6),
     }
 }
 
@@ -60,10 +73,10 @@ pub(crate) fn prop_at(props: &[u32], row: usize) -> PropertyCells
 {
     let at = PROPERTY_WIDTH * row;
     PropertyCells {
-        name: props[at],
-        len: props[at + 1],
-        value: props[at + 2],
-        size: props[at + 3],
+        name: cell(props, at),
+        len: cell(props, at + 1),
+        value: cell(props, at + 2),
+        size: cell(props, at + 3),
     }
 }
 

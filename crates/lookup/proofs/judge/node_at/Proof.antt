@@ -1,9 +1,7 @@
--- `node_at` meets its contract: each number stands where it is read (`part-at`). Assumes nothing.
-use borrow.Author.Needs.{needs}
-use Prim.Native.Nat.{_+_, _-_, _*_}
+-- `node_at` meets its contract: each number stands where it is read (`cells`). Assumes nothing.
 use native.Mathlib.Omega.{arith}
+use mathlib.Core.Path.{_∙_}
 use denote.Ref.{now}
-use lib.ListN.{length}
 use Rattle.format.specs.Bytes.{part}
 use Rattle.format.specs.Format.{nodeWidth}
 use Rattle.lookup.specs.Places.{nodeIn}
@@ -11,15 +9,24 @@ use Rattle.lookup.proofs.RowLaws.{cells}
 use Rattle.lookup.proofs.judge.node_at.Statement.{statement}
 use Rattle.lookup.proofs.judge.node_at.Tie as tie
 
--- the six numbers were read
-abbrev begun : tie.After-shared-slice-known6 → tie.Start
-begun c = c .before .before .before .before .before .before .before .before
-
 returns : tie.Need-returns
 unfolding nodeIn nodeWidth part
 returns c =
-    let x = cells (now (begun c .args .nodes)) (begun c .args .row) (begun c .pre) in
-    record { name = x .name; len = x .len; child = x .child; next = x .next; first = x .first; count = x .count }
+    let five = c .before in
+    let four = five .before in
+    let three = four .before in
+    let two = three .before in
+    let one = two .before in
+    let st = one .before .before .before .before in
+    let is = cells (now (st .args .nodes)) (st .args .row) (st .pre) in
+    record {
+      name = one .cell .ensures ∙ is .name;
+      len = two .cell2 .ensures ∙ is .len;
+      child = three .cell3 .ensures ∙ is .child;
+      next = four .cell4 .ensures ∙ is .next;
+      first = five .cell5 .ensures ∙ is .first;
+      count = c .cell6 .ensures ∙ is .count;
+    }
 
 pub node-at-spec : {M : Type 1} → statement M
 unfolding nodeWidth
@@ -36,26 +43,16 @@ node-at-spec =
     (λ c. omega arith)
     (λ c. omega arith)
     (λ c. omega arith)
+    (λ c κs. omega arith)
+    (λ c. omega arith)
+    (λ c κs. omega arith)
+    (λ c. omega arith)
+    (λ c κs. omega arith)
     (λ c. omega arith)
     (λ c. omega arith)
+    (λ c κs. omega arith)
     (λ c. omega arith)
+    (λ c κs. omega arith)
     (λ c. omega arith)
-    (λ c. omega arith)
-    (λ c. omega arith)
-    (λ c. omega arith)
-    (λ c. omega arith)
-    (λ c. omega arith)
-    (λ c. omega arith)
-    (λ c. omega arith)
-    (λ c. omega arith)
-    (λ c. omega arith)
-    (λ c. omega arith)
-    (λ c. omega arith)
-    (λ c. omega arith)
-    (λ c. omega arith)
-    (λ c. omega arith)
-    (λ c. omega arith)
-    (λ c. omega arith)
+    (λ c κs. omega arith)
     returns)
-
--- x

@@ -1,6 +1,5 @@
 -- `prop_at` meets its contract: each number stands where it is read. Assumes nothing.
-use mathlib.Core.Path.{refl}
-use borrow.Author.Needs.{needs}
+use native.Mathlib.Omega.{arith}
 use Rattle.format.specs.Format.{propertyWidth}
 use Rattle.lookup.specs.Places.{propertyIn}
 use Rattle.lookup.proofs.judge.prop_at.Statement.{statement}
@@ -8,23 +7,22 @@ use Rattle.lookup.proofs.judge.prop_at.Tie as tie
 
 returns : tie.Need-returns
 unfolding propertyIn propertyWidth
-returns c = record { name = refl; len = refl; value = refl; size = refl }
+returns c =
+    let three = c .before in
+    let two = three .before in
+    record { name = two .before .cell .ensures; len = two .cell2 .ensures; value = three .cell3 .ensures; size = c .cell4 .ensures }
 
 pub prop-at-spec : {M : Type 1} → statement M
 unfolding propertyWidth
 prop-at-spec =
     tie.close
     (tie.spec
-    (λ c. search needs)
-    (λ c. search needs)
-    (λ c. search needs)
-    (λ c. search needs)
-    (λ c. search needs)
-    (λ c. search needs)
-    (λ c. search needs)
-    (λ c. search needs)
-    (λ c. search needs)
-    (λ c. search needs)
-    (λ c. search needs)
-    (λ c. search needs)
+    (λ c. omega arith)
+    (λ c κs. omega arith)
+    (λ c. omega arith)
+    (λ c κs. omega arith)
+    (λ c. omega arith)
+    (λ c κs. omega arith)
+    (λ c. omega arith)
+    (λ c κs. omega arith)
     returns)
