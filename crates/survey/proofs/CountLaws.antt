@@ -9,6 +9,7 @@ use native.Mathlib.Nat.{add-zero}
 use mathlib.Core.List.{List}
 use lib.Dec.{eqb}
 use lib.ListN.{length, take, drop}
+use lib.Seq.{length-take-le}
 use borrow.Author.Tests.{eq-eqb, ne-eqb}
 use Rattle.format.specs.Bytes.{align, part, AreBytes}
 use Rattle.format.specs.Format.{BEGIN-NODE, END-NODE, PROP}
@@ -30,7 +31,7 @@ use Rattle.survey.specs.declared.Block.{Block}
 use Rattle.survey.specs.declared.nodes.Props.{Props}
 use Rattle.survey.specs.declared.nodes.Head.{Head}
 use Rattle.survey.specs.declared.nodes.Passed.{Passed}
-use Rattle.survey.specs.Nodes.{block, countedProps, headOf, endOf, counted}
+use Rattle.survey.specs.Nodes.{block, Small, countedProps, headOf, endOf, counted}
 
 -- the n bytes from p on, as `&b[p..p + n]` has them
 pub cut : (b : List ℕ) (p n : ℕ) → take (p + n - p) (drop p b) ≡ part b p n
@@ -43,6 +44,14 @@ told-cut b p {start} {len} t = cut b p len ∙ ap (part b p) (t .size) ∙ strin
 
 pub told-inside : (b : List ℕ) (p : ℕ) {start len : ℕ} → Told p (read-bstring0 b p) start len → p + len < length b
 told-inside b p t = omega (arith, t .size, string-ends b p (t .bytes) (t .read))
+
+-- a name in the strings block ends inside it, so the sum of its place and its length fits
+pub name-ends : {b : List ℕ} {strings : Block} (p : ℕ) {start len : ℕ} → Small b strings → Told p (read-bstring0 (take (strings .end) b) p) start len
+    → (p + len < 2 ^ 64) × (p + len ≤ length (take (strings .end) b))
+name-ends {b} {strings} p small t =
+    let inside = told-inside (take (strings .end) b) p t in
+    let long = length-take-le (strings .end) b (small .end) in
+    (omega (arith, inside, long, small .end, small .blob), omega (arith, inside))
 
 sum-suc : (n m : ℕ) → n + suc m ≡ n + 1 + m
 sum-suc n m = omega arith

@@ -2,7 +2,6 @@
 use borrow.Author.Needs.{needs}
 use mathlib.Core.Path.{_≡_, sym}
 use Prim.Native.Nat.{_+_}
-use native.Mathlib.Omega.{arith}
 use lib.ListN.{take}
 use lib.Seq.{length-take-le}
 use denote.Ref.{now}
@@ -12,7 +11,7 @@ use Rattle.reader.proofs.Outcomes.{word-got, word-short}
 use Rattle.utf8.proofs.Outcomes.{checked-good, checked-bad}
 use Rattle.reader.proofs.Parts.{Told, span-part, span-none}
 use Rattle.survey.specs.Outcomes.{nextOutcome, whyOf}
-use Rattle.survey.proofs.CountLaws.{told-inside, prop-no-size, prop-no-offset, prop-no-value, prop-no-name, prop-bad-name, prop-good}
+use Rattle.survey.proofs.CountLaws.{name-ends, prop-no-size, prop-no-offset, prop-no-value, prop-no-name, prop-bad-name, prop-good}
 use Rattle.survey.proofs.nodes.check_prop.Statement.{statement}
 use Rattle.survey.proofs.nodes.check_prop.Tie as tie
 
@@ -70,7 +69,7 @@ returns-3 c =
     sym (prop-no-value _ _ _ (size (sized o)) (offset o) (span-none _ _ (c .enum-told4 .given .1) (cut .subslice .ensures)))
 
 slice-aggregate-names : tie.Need-slice-aggregate-names
-slice-aggregate-names c = sym (length-take-le _ _ (omega arith))
+slice-aggregate-names c = sym (length-take-le _ _ (start (sized (offsets (c .before))) .pre .0 .end))
 
 returns-4 : tie.Need-returns-4
 unfolding nextOutcome whyOf
@@ -81,12 +80,10 @@ returns-4 c =
     sym (prop-no-name _ _ _ (size (sized o)) (offset o) (value v) (span-none _ _ (c .enum-told5 .given .1) (read .read-bstring0 .ensures)))
 
 add-from-utf8 : tie.Need-add-from-utf8
-add-from-utf8 c =
-    let names = c .before .before .before .before .before in
-    record { fits = omega (arith, told-inside _ _ (name (c .before)), slice-aggregate-names names) }
+add-from-utf8 c = record { fits = name-ends _ (start (sized (offsets (valued (c .before)))) .pre .0) (name (c .before)) .0 }
 
 part-from-utf8-end : tie.Need-part-from-utf8-end
-part-from-utf8-end c = omega (arith, told-inside _ _ (name (c .before)))
+part-from-utf8-end c = name-ends _ (start (sized (offsets (valued (c .before)))) .pre .0) (name (c .before)) .1
 
 returns-5 : tie.Need-returns-5
 unfolding nextOutcome
