@@ -11,7 +11,7 @@ use lib.Seq.{drop-cons, take-suc, take-suc-set}
 use Rattle.format.specs.Answer.{orZero}
 use Rattle.format.specs.Read.{read-be-u32}
 use borrow.Rule.Slice.PartAt.{part-to-end}
-use Rattle.lines.specs.Fields.{digitOf, firstOf, restOf, numberFrom, numberOf, before, pairOf, pairsOf, hexOf, bytesOf, wordsIn, gathered, gatheredOf, wordsOf, letterOf, Put}
+use Rattle.lines.specs.Fields.{digitOf, firstOf, restOf, numberFrom, numberOf, before, pairOf, pairsOf, hexOf, bytesOf, wordsIn, gathered, gatheredOf, wordsOf, letterOf, many, putBy, Put}
 use Rattle.lines.specs.declared.Number.{Number}
 use Rattle.lines.specs.declared.Number.the-variants as number
 use Rattle.lines.specs.declared.Count.{Count}
@@ -180,10 +180,13 @@ module _ {room : ℕ} {s out : List ℕ} {i : ℕ} (h : Hexed room s out i) (x :
   hex-bad q = h .spelled ∙ ap (before (take i out)) (pairs-bad s i x e (omega arith) q)
 
 pub hex-ends : {room : ℕ} {s out : List ℕ} {i : ℕ} → Hexed room s out i → i ≡ length s / 2 → Put (count.Is (length s / 2)) (hexOf room s) out
-unfolding Put
+unfolding many putBy
 hex-ends {room} {s} {out} {i} h e =
     let q : length s ≤ i * 2 = omega arith in
-    (omega arith, h .spelled ∙ ap (before (take i out)) (pairs-end s (i * 2) q) ∙ before-end (take i out) ∙ ap (λ (k : ℕ). some (take k out)) e)
+    record {
+      within = omega arith;
+      same = sym (h .spelled ∙ ap (before (take i out)) (pairs-end s (i * 2) q) ∙ before-end (take i out) ∙ ap (λ (k : ℕ). some (take k out)) e);
+    }
 
 -- ---- a field of bytes
 
@@ -202,19 +205,28 @@ module _ (room : ℕ) (s : List ℕ) where
   bytes-one p q =
       simp (ne-eqb (length s) 0 (λ e. omega arith), eq-eqb (length s) 1 p, ne-eqb (getD s 0 0) 45 q)
 
-  pub bytes-hex : 1 < length s → bytesOf room s ≡ hexOf room s
+  pub bytes-hex : {r : Count} {out : List ℕ} → Put r (hexOf room s) out → 1 < length s → Put r (bytesOf room s) out
   unfolding bytesOf
-  bytes-hex p = simp (ne-eqb (length s) 0 (λ e. omega arith), ne-eqb (length s) 1 (λ e. omega arith))
+  bytes-hex h p = simp (ne-eqb (length s) 0 (λ e. omega arith), ne-eqb (length s) 1 (λ e. omega arith)) h
 
 -- ---- what was put
 
-pub put-bad : (r : Count) (m : Option (List ℕ)) (out : List ℕ) → r ≡ count.Bad → Put r m out → m ≡ none
-unfolding Put
-put-bad r m out e h = rw e at h
+pub put-bad : {r : Count} {m : Option (List ℕ)} {out : List ℕ} → r ≡ count.Bad → Put r m out → m ≡ none
+unfolding putBy
+put-bad {r} {m} {out} e h = sym (h .same) ∙ ap (λ (r : Count). putBy r out) e
 
-pub put-is : (r : Count) (m : Option (List ℕ)) (out : List ℕ) (n : ℕ) → r ≡ count.Is n → Put r m out → m ≡ some (take n out)
-unfolding Put
-put-is r m out n e h = (rw e at h) .1
+pub put-is : {r : Count} {m : Option (List ℕ)} {out : List ℕ} {n : ℕ} → r ≡ count.Is n → Put r m out → m ≡ some (take n out)
+unfolding putBy
+put-is {r} {m} {out} e h = sym (h .same) ∙ ap (λ (r : Count). putBy r out) e
+
+-- nothing is put where nothing is spelled
+pub none-put : {m : Option (List ℕ)} (out : List ℕ) → m ≡ none → Put count.Bad m out
+unfolding many putBy
+none-put out e = record { within = omega arith; same = sym e }
+
+pub empty-put : {m : Option (List ℕ)} (out : List ℕ) → m ≡ some [] → Put (count.Is 0) m out
+unfolding many putBy
+empty-put out e = record { within = omega arith; same = sym e }
 
 -- ---- words
 
@@ -252,17 +264,21 @@ gather-step {room} {b} {out} {i} h x e p =
     }
 
 pub gather-ends : {room : ℕ} {b out : List ℕ} {i : ℕ} → Gathered room b out i → i ≡ length b / 4 → Put (count.Is (length b / 4)) (gathered room b) out
-unfolding Put gathered
-gather-ends {room} {b} {out} {i} h e =
-    (h .fits, simp (eq-eqb (length b % 4) 0 (h .whole), le-leb (length b / 4) room (omega arith)) (ap some (sym (rw e at (h .put)))))
+unfolding many putBy gathered
+gather-ends {room} {b} {out} {i} h e = record {
+  within = h .fits;
+  same = simp (eq-eqb (length b % 4) 0 (h .whole), le-leb (length b / 4) room (omega arith)) (ap some (rw e at (h .put)));
+}
 
-pub words-none : (room : ℕ) (s : List ℕ) → bytesOf 14336 s ≡ none → wordsOf room s ≡ none
+pub words-bad : (room : ℕ) (s : List ℕ) {r : Count} {out : List ℕ} → r ≡ count.Bad → Put r (bytesOf 14336 s) out → wordsOf room s ≡ none
 unfolding wordsOf gatheredOf
-words-none room s p = rw p
+words-bad room s e h = rw (put-bad e h)
 
-pub words-some : (room : ℕ) (s b : List ℕ) → bytesOf 14336 s ≡ some b → wordsOf room s ≡ gathered room b
+pub words-is :
+    (room : ℕ) (s : List ℕ) {n : ℕ} {r q : Count} {part out words : List ℕ} → r ≡ count.Is n → Put r (bytesOf 14336 s) out → part ≡ take n out →
+    Put q (gathered room part) words → Put q (wordsOf room s) words
 unfolding wordsOf gatheredOf
-words-some room s b p = rw p
+words-is room s e h p k = rw (put-is e h, ← p) k
 
 -- ---- a field
 

@@ -67,10 +67,19 @@ pairsOf [] = some []
 pairsOf (a ∷ []) = none
 pairsOf (a ∷ b ∷ s) = cond (ltb (pairOf a b) 256) (before (pairOf a b ∷ []) (pairsOf s)) none
 
--- what was put at the start of out, where n bytes were, is what was spelled; and nothing is spelled where it is bad
-unfoldable pub Put : Count → Option (List ℕ) → List ℕ → Type 0
-Put (count.Is n) spelled out = (n ≤ length out) × (spelled ≡ some (take n out))
-Put count.Bad spelled out = spelled ≡ none
+-- how much was put at the start of out, and what
+unfoldable pub many : Count → ℕ
+many (count.Is n) = n
+many count.Bad = 0
+
+unfoldable pub putBy : Count → List ℕ → Option (List ℕ)
+putBy (count.Is n) out = some (take n out)
+putBy count.Bad out = none
+
+-- what was put is what was spelled, all of it; and nothing is spelled where it is bad
+pub record Put (r : Count) (spelled : Option (List ℕ)) (out : List ℕ) : Type 0 where
+  pub within : many r ≤ length out
+  pub same : putBy r out ≡ spelled
 
 -- an even count of digits, no more than there is room for
 unfoldable pub hexOf : ℕ → List ℕ → Option (List ℕ)

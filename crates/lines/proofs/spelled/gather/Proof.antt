@@ -5,8 +5,7 @@ use native.Mathlib.Omega.{arith}
 use mathlib.Core.Path.{_≡_, refl}
 use borrow.Author.Needs.{needs}
 use lib.ListN.{length}
-use Rattle.lines.specs.Fields.{Put}
-use Rattle.lines.proofs.FieldLaws.{Gathered, gather-odd, gather-long, gather-begins, gather-step, gather-ends}
+use Rattle.lines.proofs.FieldLaws.{none-put, Gathered, gather-odd, gather-long, gather-begins, gather-step, gather-ends}
 use Rattle.lines.proofs.spelled.gather.Statement.{statement}
 use Rattle.lines.proofs.spelled.gather.Tie as tie
 
@@ -17,16 +16,10 @@ abbrev μ-loop : tie.MeasureT-loop
 μ-loop s out₀ count i₀ out i = count - i
 
 returns : tie.Need-returns Inv-loop μ-loop
-unfolding Put
-returns c =
-    let args = c .before .before .before .args in
-    gather-odd (length (args .out .now)) (args .s .now) (λ e. omega arith)
+returns c = none-put _ (gather-odd _ _ (λ e. omega arith))
 
 returns-2 : tie.Need-returns-2 Inv-loop μ-loop
-unfolding Put
-returns-2 c =
-    let args = c .before .before .before .before .args in
-    gather-long (length (args .out .now)) (args .s .now) (omega arith) (omega arith)
+returns-2 c = none-put _ (gather-long _ _ (omega arith) (omega arith))
 
 loop-holds : tie.Need-loop-holds Inv-loop μ-loop
 loop-holds c = (omega arith, refl, gather-begins _ _ (omega arith) (omega arith))

@@ -5,8 +5,7 @@ use native.Mathlib.Omega.{arith}
 use mathlib.Core.Path.{_≡_, refl}
 use borrow.Author.Needs.{needs}
 use lib.ListN.{length}
-use Rattle.lines.specs.Fields.{Put}
-use Rattle.lines.proofs.FieldLaws.{Hexed, hex-odd, hex-long, hex-begins, hex-step, hex-bad, hex-ends}
+use Rattle.lines.proofs.FieldLaws.{none-put, Hexed, hex-odd, hex-long, hex-begins, hex-step, hex-bad, hex-ends}
 use Rattle.lines.proofs.spelled.hex.Statement.{statement}
 use Rattle.lines.proofs.spelled.hex.Tie as tie
 
@@ -17,23 +16,18 @@ abbrev μ-loop : tie.MeasureT-loop
 μ-loop s out₀ count i₀ out i = count - i
 
 returns : tie.Need-returns Inv-loop μ-loop
-unfolding Put
-returns c =
-    let args = c .before .before .before .args in
-    hex-odd (length (args .out .now)) (args .s .now) (omega arith)
+returns c = none-put _ (hex-odd _ _ (omega arith))
 
 returns-2 : tie.Need-returns-2 Inv-loop μ-loop
-unfolding Put
-returns-2 c =
-    let args = c .before .before .before .before .args in
-    hex-long (length (args .out .now)) (args .s .now) (omega arith) (omega arith)
+returns-2 c = none-put _ (hex-long _ _ (omega arith) (omega arith))
 
 loop-holds : tie.Need-loop-holds Inv-loop μ-loop
 loop-holds c = (omega arith, refl, hex-begins _ _ (omega arith) (omega arith))
 
 returns-3 : tie.Need-returns-3 Inv-loop μ-loop
-unfolding Put
-returns-3 c = hex-bad (c .before .before .before .before .before .loop .inv .2) _ (c .before .pair .ensures) (omega arith) (omega arith)
+returns-3 c =
+    let loop = c .before .before .before .before .before .loop in
+    none-put _ (hex-bad (loop .inv .2) _ (c .before .pair .ensures) (omega arith) (omega arith))
 
 loop-again : tie.Need-loop-again Inv-loop μ-loop
 loop-again c =
