@@ -1,0 +1,18 @@
+-- `answers::pick` meets its contract: the number at each place, and 0 past them. Assumes nothing.
+use native.Mathlib.Omega.{arith}
+use borrow.Author.Needs.{needs}
+use Rattle.answers.proofs.Padded.{past-six}
+use Rattle.answers.proofs.pick.Statement.{statement}
+use Rattle.answers.proofs.pick.Tie as tie
+
+pub pick-spec : {M : Type 1} → statement M
+pick-spec =
+    tie.close
+    (tie.spec
+    (λ c. search needs)
+    (λ c. search needs)
+    (λ c. search needs)
+    (λ c. search needs)
+    (λ c. search needs)
+    (λ c. search needs)
+    (λ c. past-six _ _ _ _ _ _ (c .before .args .i) (omega arith)))
