@@ -7,22 +7,13 @@ use lines::LINE;
 use text::Output;
 use text::ROOM;
 
-// The answer to a line, and its line end.
-fn finish(line: &[u8], out: Output, text: &mut [u8; ROOM]) -> Output {
-    let told = replies::put(text, out, reply::reply(line));
-    text::byte(text, told, b'\n')
-}
-
-// A whole line is answered. Where all that was read is taken, the answers go out.
-fn turn(line: &[u8; LINE], input: Input, from: Output, text: &mut [u8; ROOM]) -> Output {
-    let mut out = from;
-    if input.whole {
-        out = finish(text::upto(line, input.len), from, text);
+// Where a line is whole it is answered; where it is not, all that was read is taken, and the answers go out.
+fn turn(line: &[u8; LINE], input: Input, out: Output, text: &mut [u8; ROOM]) -> Output {
+    if !input.whole {
+        return text::flush(text, out);
     }
-    if input.at < input.read {
-        return out;
-    }
-    text::flush(text, out)
+    let told = replies::put(text, out, reply::reply(text::upto(line, input.len)));
+    lines::finish(text, told, input)
 }
 
 fn main() {

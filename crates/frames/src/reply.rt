@@ -31,7 +31,7 @@ pub fn reply(line: &[u8]) -> Answer
 {
     let mut frame = [0u8; FRAME];
     match lines::hex(line, &mut frame) {
-        Count::Bad => Answer::Alone(16),
+        Count::Bad => Answer::Alone(lines::BAD),
         Count::Is(len) => load(text::upto(&frame, len)),
     }
 }

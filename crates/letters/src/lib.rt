@@ -5,14 +5,12 @@ ghost use Rattle.lines.specs.Fields.{firstOf, restOf, numberOf};
 ghost use Rattle.letters.specs.Replies.{rounded, twoOf, numbersReply, readReply, fieldsReply, bytesReply, utf8Reply};
 ghost use Rattle.letters.specs.Replies as replies;
 use answers::Answer;
+use lines::BAD;
 use lines::Count;
 use lines::Number;
 
 // The most bytes that a byte string may have.
 const BYTES: usize = 8192;
-
-// The answer to a bad line.
-const BAD: u64 = 16;
 
 // Two numbers.
 enum Two {

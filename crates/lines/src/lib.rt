@@ -8,6 +8,7 @@ pub use fields::after_two;
 pub use fields::first;
 pub use fields::letter;
 pub use fields::rest;
+pub use reading::finish;
 pub use reading::next;
 pub use reading::start;
 pub use spelled::bytes;
@@ -18,6 +19,9 @@ pub use spelled::words;
 // The room for a line. The longest good one, of the letter R of `queries`, has 65,605 bytes: 65,536 digits of hexadecimal fields,
 // 60 of numbers, the letter and 8 spaces. So a line that fills the room is bad however it goes on.
 pub const LINE: usize = 66000;
+
+// What a bad line is answered.
+pub const BAD: u64 = 16;
 
 // The room for what one read gives: io::large_buffer's.
 pub const READ: usize = 65536;

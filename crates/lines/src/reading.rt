@@ -3,6 +3,8 @@ use crate::Input;
 use crate::LINE;
 use crate::READ;
 use libc::STDIN_FILENO;
+use text::Output;
+use text::ROOM;
 
 // Nothing is read yet.
 pub fn start() -> Input {
@@ -89,4 +91,13 @@ pub fn next(buffer: &mut [u8; READ], line: &mut [u8; LINE], from: Input) -> Inpu
         return last(len);
     }
     take(text::upto(buffer, read), 0, line, len)
+}
+
+// The line end of an answer. Where all that was read is taken, the answers go out.
+pub fn finish(text: &mut [u8; ROOM], out: Output, input: Input) -> Output {
+    let ended = text::byte(text, out, b'\n');
+    if input.at < input.read {
+        return ended;
+    }
+    text::flush(text, ended)
 }
