@@ -6,6 +6,7 @@ use crate::NODES;
 use crate::PROPERTIES;
 use crate::lookups;
 use crate::lookups::Looked;
+use crate::lookups::Names;
 use crate::lookups::Rows;
 use crate::tables;
 use lines::Count;
@@ -20,67 +21,58 @@ enum Numbers {
 // COUNT PROPS COUNT START, which other fields follow.
 fn numbers_in(s: &[u8]) -> Numbers {
     let second = lines::after_two(s);
-    match lines::decimal(lines::first(s)) {
-        Number::Bad => Numbers::Bad,
-        Number::Is(nodes) => match lines::decimal(lines::first(second)) {
-            Number::Bad => Numbers::Bad,
-            Number::Is(props) => match lines::decimal(lines::first(lines::rest(second))) {
-                Number::Bad => Numbers::Bad,
-                Number::Is(row) => Numbers::Are(Rows { nodes, props, row }),
-            },
-        },
-    }
+    let Number::Is(nodes) = lines::decimal(lines::first(s)) else {
+        return Numbers::Bad;
+    };
+    let Number::Is(props) = lines::decimal(lines::first(second)) else {
+        return Numbers::Bad;
+    };
+    let Number::Is(row) = lines::decimal(lines::first(lines::rest(second))) else {
+        return Numbers::Bad;
+    };
+    Numbers::Are(Rows { nodes, props, row })
 }
 
 // BLOB NODES COUNT PROPS COUNT START PATH NAME
 pub fn look(s: &[u8]) -> Looked {
-    let mut room = [0u8; BYTES];
-    match lines::bytes(lines::first(s), &mut room) {
-        Count::Bad => Looked::Bad,
-        Count::Is(len) => of_blob(text::upto(&room, len), lines::rest(s)),
-    }
-}
-
-// NODES COUNT PROPS COUNT START PATH NAME, of a blob.
-fn of_blob(b: &[u8], s: &[u8]) -> Looked {
-    let mut room = [0u32; NODES];
-    match lines::words(lines::first(s), &mut room) {
-        Count::Bad => Looked::Bad,
-        Count::Is(len) => of_nodes(b, tables::upto(&room, len), lines::rest(s)),
-    }
-}
-
-// COUNT PROPS COUNT START PATH NAME, of a blob and nodes.
-fn of_nodes(b: &[u8], nodes: &[u32], s: &[u8]) -> Looked {
-    let mut room = [0u32; PROPERTIES];
-    match lines::words(lines::first(lines::rest(s)), &mut room) {
-        Count::Bad => Looked::Bad,
-        Count::Is(len) => of_tables(b, nodes, tables::upto(&room, len), s),
-    }
+    let mut blob = [0u8; BYTES];
+    let mut nodes = [0u32; NODES];
+    let mut props = [0u32; PROPERTIES];
+    let rest = lines::rest(s);
+    let Count::Is(b) = lines::bytes(lines::first(s), &mut blob) else {
+        return Looked::Bad;
+    };
+    let Count::Is(n) = lines::words(lines::first(rest), &mut nodes) else {
+        return Looked::Bad;
+    };
+    let Count::Is(p) = lines::words(lines::first(lines::after_two(rest)), &mut props) else {
+        return Looked::Bad;
+    };
+    of_tables(
+        text::upto(&blob, b),
+        tables::upto(&nodes, n),
+        tables::upto(&props, p),
+        lines::rest(rest),
+    )
 }
 
 // COUNT PROPS COUNT START PATH NAME, of a blob and both tables.
 fn of_tables(b: &[u8], nodes: &[u32], props: &[u32], s: &[u8]) -> Looked {
-    match numbers_in(s) {
-        Numbers::Bad => Looked::Bad,
-        Numbers::Are(at) => of_rows(b, nodes, props, at, lines::after_two(lines::after_two(s))),
-    }
-}
-
-// PATH NAME, of a blob, both tables and a row.
-fn of_rows(b: &[u8], nodes: &[u32], props: &[u32], at: Rows, s: &[u8]) -> Looked {
-    let mut room = [0u8; NAME];
-    match lines::bytes(lines::first(s), &mut room) {
-        Count::Bad => Looked::Bad,
-        Count::Is(len) => of_path(b, nodes, props, at, text::upto(&room, len), lines::rest(s)),
-    }
-}
-
-// NAME, of a blob, both tables, a row and a path.
-fn of_path(b: &[u8], nodes: &[u32], props: &[u32], at: Rows, path: &[u8], s: &[u8]) -> Looked {
-    let mut room = [0u8; NAME];
-    match lines::bytes(s, &mut room) {
-        Count::Bad => Looked::Bad,
-        Count::Is(len) => lookups::all(b, nodes, props, at, path, text::upto(&room, len)),
-    }
+    let mut path = [0u8; NAME];
+    let mut name = [0u8; NAME];
+    let names = lines::after_two(lines::after_two(s));
+    let Numbers::Are(at) = numbers_in(s) else {
+        return Looked::Bad;
+    };
+    let Names::Are { path: m, name: n } = lookups::read(names, &mut path, &mut name) else {
+        return Looked::Bad;
+    };
+    lookups::all(
+        b,
+        nodes,
+        props,
+        at,
+        text::upto(&path, m),
+        text::upto(&name, n),
+    )
 }

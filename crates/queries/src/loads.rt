@@ -6,85 +6,64 @@ use crate::NODES;
 use crate::PROPERTIES;
 use crate::RESERVATIONS;
 use crate::lookups;
+use crate::lookups::Names;
 use crate::lookups::Rows;
 use crate::tables;
 use answers::Answer;
 use lines::Count;
-use loader::DeviceTree;
 use loader::Loaded;
 use lookup::Found;
 use text::Output;
 use text::ROOM;
 
-fn bad(text: &mut [u8; ROOM], out: Output) -> Output {
-    replies::put(text, out, Answer::Alone(lines::BAD))
-}
-
 // BLOB PATH NAME
 pub fn answer(s: &[u8], out: Output, text: &mut [u8; ROOM]) -> Output {
-    let mut room = [0u8; BYTES];
-    match lines::bytes(lines::first(s), &mut room) {
-        Count::Bad => bad(text, out),
-        Count::Is(len) => of_blob(text::upto(&room, len), lines::rest(s), out, text),
-    }
+    let mut blob = [0u8; BYTES];
+    let mut path = [0u8; NAME];
+    let mut name = [0u8; NAME];
+    let Count::Is(len) = lines::bytes(lines::first(s), &mut blob) else {
+        return replies::put(text, out, Answer::Alone(lines::BAD));
+    };
+    let Names::Are { path: m, name: n } = lookups::read(lines::rest(s), &mut path, &mut name) else {
+        return replies::put(text, out, Answer::Alone(lines::BAD));
+    };
+    let b = text::upto(&blob, len);
+    tell(b, text::upto(&path, m), text::upto(&name, n), out, text)
 }
 
-// PATH NAME, of a blob.
-fn of_blob(b: &[u8], s: &[u8], out: Output, text: &mut [u8; ROOM]) -> Output {
-    let mut room = [0u8; NAME];
-    match lines::bytes(lines::first(s), &mut room) {
-        Count::Bad => bad(text, out),
-        Count::Is(len) => of_path(b, text::upto(&room, len), lines::rest(s), out, text),
-    }
-}
-
-// NAME, of a blob and a path.
-fn of_path(b: &[u8], path: &[u8], s: &[u8], out: Output, text: &mut [u8; ROOM]) -> Output {
-    let mut room = [0u8; NAME];
-    match lines::bytes(s, &mut room) {
-        Count::Bad => bad(text, out),
-        Count::Is(len) => tell(b, path, text::upto(&room, len), out, text),
-    }
-}
-
-// The answer of a load into tables whose every number is 7, and what follows it where it is 0.
+// A load into tables whose every number is 7, and what follows it.
 fn tell(b: &[u8], path: &[u8], name: &[u8], out: Output, text: &mut [u8; ROOM]) -> Output {
     let mut reserved = [7u64; RESERVATIONS];
     let mut nodes = [7u32; NODES];
     let mut props = [7u32; PROPERTIES];
     let loaded = loader::load(b, &mut reserved, &mut nodes, &mut props);
-    let told = replies::put(text, out, answers::of_load(loaded));
-    match loaded {
-        Loaded::Refused(_) => told,
-        Loaded::Tree(tree) => {
-            let rows = tables::put(text, told, tree, &reserved, &nodes, &props);
-            put_found(text, rows, b, &nodes, &props, tree, path, name)
-        }
-    }
+    let told = tables::put(text, out, loaded, &reserved, &nodes, &props);
+    put_found(text, told, loaded, b, &nodes, &props, path, name)
 }
 
-// A tree path as a part that follows others; and, where it finds a row, the name at that row.
+// Of a load that is answered 0: a tree path as a part that follows others; and, where it finds a row, the name at that row.
 fn put_found(
     text: &mut [u8; ROOM],
     out: Output,
+    loaded: Loaded,
     b: &[u8],
     nodes: &[u32],
     props: &[u32],
-    tree: DeviceTree,
     path: &[u8],
     name: &[u8],
 ) -> Output {
+    let Loaded::Tree(tree) = loaded else {
+        return out;
+    };
     let found = lookup::find(b, nodes, tree.nodes, path);
     let told = replies::further(text, out, answers::of_found(found));
-    match found {
-        Found::Row(row) => {
-            let at = Rows {
-                nodes: tree.nodes,
-                props: tree.props,
-                row,
-            };
-            lookups::put_property(text, told, lookups::named(b, nodes, props, at, name))
-        }
-        _ => told,
-    }
+    let Found::Row(row) = found else {
+        return told;
+    };
+    let at = Rows {
+        nodes: tree.nodes,
+        props: tree.props,
+        row,
+    };
+    lookups::put_property(text, told, lookups::named(b, nodes, props, at, name))
 }

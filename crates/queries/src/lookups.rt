@@ -1,5 +1,6 @@
 // What a path and a name find in tables, as answers by value, and these as text.
 use answers::Answer;
+use lines::Count;
 use text::Output;
 use text::ROOM;
 
@@ -27,6 +28,23 @@ pub enum Looked {
         from: Answer,
         property: Property,
     },
+}
+
+// How many bytes a path and a name have.
+pub enum Names {
+    Are { path: usize, name: usize },
+    Bad,
+}
+
+// PATH NAME, the last fields of a line.
+pub fn read(s: &[u8], path: &mut [u8], name: &mut [u8]) -> Names {
+    let Count::Is(m) = lines::bytes(lines::first(s), path) else {
+        return Names::Bad;
+    };
+    let Count::Is(n) = lines::bytes(lines::rest(s), name) else {
+        return Names::Bad;
+    };
+    Names::Are { path: m, name: n }
 }
 
 pub fn named(b: &[u8], nodes: &[u32], props: &[u32], at: Rows, name: &[u8]) -> Property {

@@ -7,6 +7,7 @@ use format::NODE_WIDTH;
 use format::PROPERTY_WIDTH;
 use format::RESERVATION_WIDTH;
 use loader::DeviceTree;
+use loader::Loaded;
 use text::Output;
 use text::ROOM;
 
@@ -35,13 +36,13 @@ fn least(rows: usize, most: usize) -> usize
     rows
 }
 
-// All numbers of a table, by single spaces; `-` where there are none.
+// All numbers of a table, as a part of an answer that follows others: by single spaces, `-` where there are none.
 fn put_longs(text: &mut [u8; ROOM], from: Output, table: &[u64]) -> Output {
+    let mut out = text::bytes(text, from, b" ;");
     if table.len() == 0 {
-        return text::byte(text, from, b'-');
+        return text::bytes(text, out, b" -");
     }
-    let mut out = text::number(text, from, table[0]);
-    let mut i = 1;
+    let mut i = 0;
     while i < table.len() {
         out = text::value(text, out, table[i]);
         i += 1;
@@ -50,11 +51,11 @@ fn put_longs(text: &mut [u8; ROOM], from: Output, table: &[u64]) -> Output {
 }
 
 fn put_words(text: &mut [u8; ROOM], from: Output, table: &[u32]) -> Output {
+    let mut out = text::bytes(text, from, b" ;");
     if table.len() == 0 {
-        return text::byte(text, from, b'-');
+        return text::bytes(text, out, b" -");
     }
-    let mut out = text::number(text, from, text::word(table[0]));
-    let mut i = 1;
+    let mut i = 0;
     while i < table.len() {
         out = text::value(text, out, text::word(table[i]));
         i += 1;
@@ -62,8 +63,8 @@ fn put_words(text: &mut [u8; ROOM], from: Output, table: &[u32]) -> Output {
     out
 }
 
-// The used rows of each table, each table a part that follows others.
-pub fn put(
+// The used rows of each table.
+fn put_rows(
     text: &mut [u8; ROOM],
     out: Output,
     tree: DeviceTree,
@@ -71,16 +72,26 @@ pub fn put(
     nodes: &[u32],
     props: &[u32],
 ) -> Output {
-    let used = longs_upto(
-        reserved,
-        least(tree.reserved, RESERVATION_ROWS) * RESERVATION_WIDTH,
-    );
-    let begun = replies::part(text, out);
-    let told = put_longs(text, begun, used);
-    let used = upto(nodes, least(tree.nodes, NODE_ROWS) * NODE_WIDTH);
-    let begun = replies::part(text, told);
-    let told = put_words(text, begun, used);
-    let used = upto(props, least(tree.props, PROPERTY_ROWS) * PROPERTY_WIDTH);
-    let begun = replies::part(text, told);
-    put_words(text, begun, used)
+    let reservation_numbers = least(tree.reserved, RESERVATION_ROWS) * RESERVATION_WIDTH;
+    let node_numbers = least(tree.nodes, NODE_ROWS) * NODE_WIDTH;
+    let property_numbers = least(tree.props, PROPERTY_ROWS) * PROPERTY_WIDTH;
+    let told = put_longs(text, out, longs_upto(reserved, reservation_numbers));
+    let told = put_words(text, told, upto(nodes, node_numbers));
+    put_words(text, told, upto(props, property_numbers))
+}
+
+// A load's answer, and where it is 0 the used rows.
+pub fn put(
+    text: &mut [u8; ROOM],
+    out: Output,
+    loaded: Loaded,
+    reserved: &[u64],
+    nodes: &[u32],
+    props: &[u32],
+) -> Output {
+    let told = replies::put(text, out, answers::of_load(loaded));
+    match loaded {
+        Loaded::Refused(_) => told,
+        Loaded::Tree(tree) => put_rows(text, told, tree, reserved, nodes, props),
+    }
 }
