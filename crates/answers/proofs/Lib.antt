@@ -1,2 +1,3 @@
 -- Laws that belong to no one function.
 mod Padded
+pub mod Same

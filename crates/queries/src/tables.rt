@@ -36,12 +36,18 @@ fn least(rows: usize, most: usize) -> usize
     rows
 }
 
-// All numbers of a table, as a part of an answer that follows others: by single spaces, `-` where there are none.
-fn put_longs(text: &mut [u8; ROOM], from: Output, table: &[u64]) -> Output {
-    let mut out = text::bytes(text, from, b" ;");
-    if table.len() == 0 {
+// Begins a part of an answer that tells so many numbers: `-` where there are none.
+fn begin(text: &mut [u8; ROOM], from: Output, count: usize) -> Output {
+    let out = text::bytes(text, from, b" ;");
+    if count == 0 {
         return text::bytes(text, out, b" -");
     }
+    out
+}
+
+// All numbers of a table, each after a space.
+fn put_longs(text: &mut [u8; ROOM], from: Output, table: &[u64]) -> Output {
+    let mut out = begin(text, from, table.len());
     let mut i = 0;
     while i < table.len() {
         out = text::value(text, out, table[i]);
@@ -51,10 +57,7 @@ fn put_longs(text: &mut [u8; ROOM], from: Output, table: &[u64]) -> Output {
 }
 
 fn put_words(text: &mut [u8; ROOM], from: Output, table: &[u32]) -> Output {
-    let mut out = text::bytes(text, from, b" ;");
-    if table.len() == 0 {
-        return text::bytes(text, out, b" -");
-    }
+    let mut out = begin(text, from, table.len());
     let mut i = 0;
     while i < table.len() {
         out = text::value(text, out, text::word(table[i]));
