@@ -1,20 +1,16 @@
 // The letter R: rows from elsewhere, and what a path and a name find in them. The fields are read one after the other, each by a
 // function that has room for what it spells and hands it on.
-ghost use Rattle.queries.specs.Buffers.{Room};
 use crate::BYTES;
 use crate::NAME;
 use crate::NODES;
 use crate::PROPERTIES;
-use crate::fields;
-use crate::fields::Count;
-use crate::fields::Names;
-use crate::fields::Number;
-use crate::letters::Answer;
 use crate::lookups;
+use crate::lookups::Looked;
+use crate::lookups::Names;
 use crate::lookups::Rows;
-use crate::output;
-use crate::output::Output;
-use crate::rows;
+use crate::tables;
+use lines::Count;
+use lines::Number;
 
 // The numbers of a line.
 enum Numbers {
@@ -24,102 +20,59 @@ enum Numbers {
 
 // COUNT PROPS COUNT START, which other fields follow.
 fn numbers_in(s: &[u8]) -> Numbers {
-    let second = fields::after_two(s);
-    match fields::decimal(fields::first(s)) {
-        Number::Bad => Numbers::Bad,
-        Number::Is(nodes) => match fields::decimal(fields::first(second)) {
-            Number::Bad => Numbers::Bad,
-            Number::Is(props) => match fields::decimal(fields::first(fields::rest(second))) {
-                Number::Bad => Numbers::Bad,
-                Number::Is(row) => Numbers::Are(Rows { nodes, props, row }),
-            },
-        },
-    }
+    let second = lines::after_two(s);
+    let Number::Is(nodes) = lines::decimal(lines::first(s)) else {
+        return Numbers::Bad;
+    };
+    let Number::Is(props) = lines::decimal(lines::first(second)) else {
+        return Numbers::Bad;
+    };
+    let Number::Is(row) = lines::decimal(lines::first(lines::rest(second))) else {
+        return Numbers::Bad;
+    };
+    Numbers::Are(Rows { nodes, props, row })
 }
 
 // BLOB NODES COUNT PROPS COUNT START PATH NAME
-pub(crate) fn answer(s: &[u8], out: Output, text: &mut [u8]) -> Output
-    requires { ⌜ Room out (now text) ⌝ }
-    ensures { λ r. ⌜ Room r (now (text .exit)) ⌝ }
-{
-    let mut bytes = [0u8; BYTES];
-    match fields::bytes(fields::first(s), &mut bytes) {
-        Count::Bad => output::put(text, out, Answer::BadLine),
-        Count::Is(len) => of_blob(fields::upto(&bytes, len), fields::rest(s), out, text),
-    }
-}
-
-// NODES COUNT PROPS COUNT START PATH NAME, of a blob.
-fn of_blob(b: &[u8], s: &[u8], out: Output, text: &mut [u8]) -> Output
-    requires { ⌜ Room out (now text) ⌝ }
-    ensures { λ r. ⌜ Room r (now (text .exit)) ⌝ }
-{
+pub fn look(s: &[u8]) -> Looked {
+    let mut blob = [0u8; BYTES];
     let mut nodes = [0u32; NODES];
-    match fields::words(fields::first(s), &mut nodes) {
-        Count::Bad => output::put(text, out, Answer::BadLine),
-        Count::Is(len) => of_nodes(b, rows::upto(&nodes, len), fields::rest(s), out, text),
-    }
-}
-
-// COUNT PROPS COUNT START PATH NAME, of a blob and nodes.
-fn of_nodes(b: &[u8], nodes: &[u32], s: &[u8], out: Output, text: &mut [u8]) -> Output
-    requires { ⌜ Room out (now text) ⌝ }
-    ensures { λ r. ⌜ Room r (now (text .exit)) ⌝ }
-{
     let mut props = [0u32; PROPERTIES];
-    match fields::words(fields::first(fields::rest(s)), &mut props) {
-        Count::Bad => output::put(text, out, Answer::BadLine),
-        Count::Is(len) => of_tables(b, nodes, rows::upto(&props, len), s, out, text),
-    }
+    let rest = lines::rest(s);
+    let Count::Is(b) = lines::bytes(lines::first(s), &mut blob) else {
+        return Looked::Bad;
+    };
+    let Count::Is(n) = lines::words(lines::first(rest), &mut nodes) else {
+        return Looked::Bad;
+    };
+    let Count::Is(p) = lines::words(lines::first(lines::after_two(rest)), &mut props) else {
+        return Looked::Bad;
+    };
+    of_tables(
+        text::upto(&blob, b),
+        tables::upto(&nodes, n),
+        tables::upto(&props, p),
+        lines::rest(rest),
+    )
 }
 
 // COUNT PROPS COUNT START PATH NAME, of a blob and both tables.
-fn of_tables(
-    b: &[u8],
-    nodes: &[u32],
-    props: &[u32],
-    s: &[u8],
-    out: Output,
-    text: &mut [u8],
-) -> Output
-    requires { ⌜ Room out (now text) ⌝ }
-    ensures { λ r. ⌜ Room r (now (text .exit)) ⌝ }
-{
-    match numbers_in(s) {
-        Numbers::Bad => output::put(text, out, Answer::BadLine),
-        Numbers::Are(at) => of_rows(
-            b,
-            nodes,
-            props,
-            at,
-            fields::after_two(fields::after_two(s)),
-            out,
-            text,
-        ),
-    }
-}
-
-// PATH NAME, of a blob, both tables and a row.
-fn of_rows(
-    b: &[u8],
-    nodes: &[u32],
-    props: &[u32],
-    at: Rows,
-    s: &[u8],
-    out: Output,
-    text: &mut [u8],
-) -> Output
-    requires { ⌜ Room out (now text) ⌝ }
-    ensures { λ r. ⌜ Room r (now (text .exit)) ⌝ }
-{
+fn of_tables(b: &[u8], nodes: &[u32], props: &[u32], s: &[u8]) -> Looked {
     let mut path = [0u8; NAME];
     let mut name = [0u8; NAME];
-    match fields::path_and_name(s, &mut path, &mut name) {
-        Names::Bad => output::put(text, out, Answer::BadLine),
-        Names::Are { path: m, name: n } => {
-            let path = fields::upto(&path, m);
-            let name = fields::upto(&name, n);
-            lookups::put_all(text, out, b, nodes, props, at, path, name)
-        }
-    }
+    let names = lines::after_two(lines::after_two(s));
+    let Numbers::Are(at) = numbers_in(s) else {
+        return Looked::Bad;
+    };
+    let Names::Are { path: m, name: n } = lookups::read(names, &mut path, &mut name) else {
+        return Looked::Bad;
+    };
+    lookups::all(
+        b,
+        nodes,
+        props,
+        at,
+        text::upto(&path, m),
+        text::upto(&name, n),
+    )
 }

@@ -1,0 +1,2 @@
+-- What the contracts of `letters` cite.
+pub mod Replies

@@ -1,4 +1,0 @@
--- Laws that belong to no one function.
-mod FieldLaws
-mod ReplyLaws
-mod TableLaws

@@ -1,0 +1,2 @@
+-- Laws of an answer's numbers, one by one.
+mod Padded
