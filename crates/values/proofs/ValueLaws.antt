@@ -9,7 +9,7 @@ use lib.Dec.{leb}
 use lib.ListN.{length, take, drop, getD}
 use lib.Seq.{length-take-le, take-take}
 use borrow.Author.Tests.{leb-true, le-leb, lt-leb, eq-eqb, ne-eqb}
-use Rattle.format.specs.Answer.{Refusal, Outcome, ok, refused, _>>=_, check, Span, numbers, place, spanAt, orZero, nothingFound, notUsable, utf8Error, missing0, tooShort}
+use Rattle.format.specs.Answer.{Refusal, Outcome, ok, refused, _>>=_, Span, numbers, place, spanAt, orZero, nothingFound, notUsable, utf8Error, missing0, tooShort}
 use Rattle.format.specs.Bytes.{part, valueAt}
 use Rattle.format.specs.Read.{read-be, utf8Check}
 use Rattle.format.specs.Find.{asNumber, ends0, asString}
