@@ -68,28 +68,31 @@ property-is zero t k h = absurd (omega arith)
 property-is (suc n) t zero h = refl
 property-is (suc n) t (suc k) h = property-is n (drop 4 t) k (omega arith) ∙ property-shift t k
 
--- a number of a part
-pub part-at : (t : List ℕ) (p n i k : ℕ) → i < n → p + i ≡ k → getD (part t p n) i 0 ≡ getD t k 0
-unfolding part
-part-at t p n i k h e = getD-take n (drop p t) i 0 h ∙ moved t p i k e
+-- a number of the table from p on, as it is lent
+abbrev from : List ℕ → ℕ → List ℕ
+from t p = part t p (length t - p)
 
--- where `node_at` reads them
+from-at : (t : List ℕ) (p i k : ℕ) → k < length t → p + i ≡ k → getD (from t p) i 0 ≡ getD t k 0
+unfolding part
+from-at t p i k h e = getD-take (length t - p) (drop p t) i 0 (omega arith) ∙ moved t p i k e
+
+-- where `node_at` reads a row's
 pub record Cells (t : List ℕ) (r : ℕ) : Type 0 where
-  pub name : getD (part t (6 * r) (length t - 6 * r)) r 0 ≡ getD t (7 * r) 0
-  pub len : getD (part t (6 * r) (length t - 6 * r)) (r + 1) 0 ≡ getD t (7 * r + 1) 0
-  pub child : getD (part t (6 * r) (length t - 6 * r)) (r + 3) 0 ≡ getD t (7 * r + 3) 0
-  pub next : getD (part t (2 * r) (length t - 2 * r)) (5 * r + 4) 0 ≡ getD t (7 * r + 4) 0
-  pub first : getD (part t (6 * r) (length t - 6 * r)) (r + 5) 0 ≡ getD t (7 * r + 5) 0
-  pub count : getD (part t (6 * r) (length t - 6 * r)) (r + 6) 0 ≡ getD t (7 * r + 6) 0
+  pub name : getD (from t (6 * r)) r 0 ≡ getD t (7 * r) 0
+  pub len : getD (from t (6 * r)) (r + 1) 0 ≡ getD t (7 * r + 1) 0
+  pub child : getD (from t (6 * r)) (r + 3) 0 ≡ getD t (7 * r + 3) 0
+  pub next : getD (from t (2 * r)) (5 * r + 4) 0 ≡ getD t (7 * r + 4) 0
+  pub first : getD (from t (6 * r)) (r + 5) 0 ≡ getD t (7 * r + 5) 0
+  pub count : getD (from t (6 * r)) (r + 6) 0 ≡ getD t (7 * r + 6) 0
 
 pub cells : (t : List ℕ) (r : ℕ) → 7 * (r + 1) ≤ length t → Cells t r
 cells t r h = record {
-  name = part-at t (6 * r) (length t - 6 * r) r _ (omega arith) (omega arith);
-  len = part-at t (6 * r) (length t - 6 * r) (r + 1) _ (omega arith) (omega arith);
-  child = part-at t (6 * r) (length t - 6 * r) (r + 3) _ (omega arith) (omega arith);
-  next = part-at t (2 * r) (length t - 2 * r) (5 * r + 4) _ (omega arith) (omega arith);
-  first = part-at t (6 * r) (length t - 6 * r) (r + 5) _ (omega arith) (omega arith);
-  count = part-at t (6 * r) (length t - 6 * r) (r + 6) _ (omega arith) (omega arith);
+  name = from-at t _ _ _ (omega arith) (omega arith);
+  len = from-at t _ _ _ (omega arith) (omega arith);
+  child = from-at t _ _ _ (omega arith) (omega arith);
+  next = from-at t _ _ _ (omega arith) (omega arith);
+  first = from-at t _ _ _ (omega arith) (omega arith);
+  count = from-at t _ _ _ (omega arith) (omega arith);
 }
 
 -- the numbers that were read are the row's

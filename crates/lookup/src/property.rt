@@ -2,7 +2,7 @@
 ghost use mathlib.Core.Path.{_≡_};
 ghost use Prim.Native.Nat.{ℕ, _-_, _≤_, _*_};
 ghost use lib.ListN.{length};
-ghost use Rattle.format.specs.Answer.{numbers, itself, nothing, place, orEmpty};
+ghost use Rattle.format.specs.Answer.{numbers, nothing, place, orEmpty};
 ghost use Rattle.format.specs.Format.{propertyWidth};
 ghost use Rattle.format.specs.Rows.{propertiesIn};
 ghost use Rattle.format.specs.Lookup.{among, prop-raw, has-prop};

@@ -1,9 +1,9 @@
 -- Each answer's number and values, by document 01 ("When the reader says no"), and the outcome that it stands for.
 use Prim.Native.Nat.{ℕ}
 use mathlib.Core.List.{List, [], _∷_}
-use lib.ListN.{length}
+use lib.Dec.{leb}
 use Rattle.format.specs.Answer as answer
-use Rattle.format.specs.Answer.{Refusal, Outcome, ok, refused, _>>=_, Span}
+use Rattle.format.specs.Answer.{Refusal, Outcome, ok, refused, _>>=_, check, Span}
 use Rattle.values.specs.declared.PropError.{PropError}
 use Rattle.values.specs.declared.PropError.the-variants as why
 use Rattle.values.specs.declared.Text.{Text}
@@ -12,6 +12,8 @@ use Rattle.values.specs.declared.Number32.{Number32}
 use Rattle.values.specs.declared.Number32.the-variants as n32
 use Rattle.values.specs.declared.Number64.{Number64}
 use Rattle.values.specs.declared.Number64.the-variants as n64
+use Rattle.values.specs.declared.Begin.{Begin}
+use Rattle.values.specs.declared.Begin.the-variants as begin
 
 -- ---- numbers: what the promises speak of
 
@@ -55,6 +57,14 @@ unfoldable pub number64Outcome : Number64 → Outcome ℕ
 number64Outcome (n64.Got n) = ok n
 number64Outcome (n64.Refused e) = refused (whyOf e)
 
--- where a text that was read from position p on lies
-unfoldable pub textAt : ℕ → Outcome (List ℕ) → Outcome Span
-textAt p m = m >>= λ text. ok (record { offset = p; size = length text })
+-- ---- a value that is read by its first k bytes: where it begins
+
+unfoldable pub beginAt : ℕ → Outcome Span → Outcome ℕ
+beginAt k m = do
+  value ← m
+  _ ← check (leb k (value .size)) answer.tooShort
+  ok (value .offset)
+
+unfoldable pub beginOutcome : Begin → Outcome ℕ
+beginOutcome (begin.At p) = ok p
+beginOutcome (begin.Refused e) = refused (whyOf e)

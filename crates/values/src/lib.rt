@@ -1,15 +1,13 @@
 // What a property's value is: a text, or a number of its first bytes. Whatever the tables hold, a call gets an answer; nothing is written.
 ghost use mathlib.Core.Path.{_≡_};
-ghost use Rattle.format.specs.Answer.{numbers, itself, place, orEmpty};
-ghost use Rattle.format.specs.Find.{asNumber, asString};
+ghost use Rattle.format.specs.Answer.{numbers, itself, place, spanAt, orEmpty};
+ghost use Rattle.format.specs.Find.{asString};
 ghost use Rattle.format.specs.Lookup.{prop-str, prop-u32, prop-u64};
 ghost use Rattle.format.specs.Agrees.{bytesIn};
-ghost use Rattle.lookup.specs.Answers.{lent};
-ghost use Rattle.values.specs.Answers.{textNumbers, textOutcome, textAt, number32Numbers, number32Outcome, number64Numbers, number64Outcome};
+ghost use Rattle.lookup.specs.Answers.{lent, valueOutcome};
+ghost use Rattle.values.specs.Answers.{textNumbers, textOutcome, number32Numbers, number64Numbers, beginOutcome, beginAt};
 use lookup::Value;
 use lookup::prop_raw;
-use reader::Long;
-use reader::Word;
 use utf8::Checked;
 
 // Why a value is not read: the Rust's reasons, and rows that cannot be used.
@@ -39,12 +37,25 @@ pub enum Number64 {
     Refused(PropError),
 }
 
-fn u32_of(value: &[u8]) -> Number32
-    ensures { λ r. ⌜ number32Outcome r ≡ asNumber 4 (now (value .entry)) ⌝ }
+// Where a value begins, or why its bytes are not read.
+enum Begin {
+    At(usize),
+    Refused(PropError),
+}
+
+// The beginning of a value that has so many bytes: what both widths are read by.
+fn begin_of(value: Value, width: usize) -> Begin
+    ensures { λ r. ⌜ beginOutcome r ≡ beginAt width (valueOutcome value) ⌝ }
 {
-    match reader::read_be_u32(value, 0) {
-        Word::Got(n) => Number32::Got(n),
-        Word::Short => Number32::Refused(PropError::Short),
+    match value {
+        Value::Part { start, len } => {
+            if len < width {
+                return Begin::Refused(PropError::Short);
+            }
+            Begin::At(start)
+        }
+        Value::Nothing => Begin::Refused(PropError::NotFound),
+        Value::Unusable => Begin::Refused(PropError::Unusable),
     }
 }
 
@@ -60,19 +71,9 @@ pub fn prop_u32(
 ) -> Number32
     ensures { λ r. ⌜ number32Numbers r ≡ numbers itself (prop-u32 (now (b .entry)) (lent (now (nodes .entry)) count (now (props .entry)) many) row (now (name .entry))) ⌝ }
 {
-    match prop_raw(b, nodes, count, props, many, row, name) {
-        Value::Part { start, len } => u32_of(&b[start..start + len]),
-        Value::Nothing => Number32::Refused(PropError::NotFound),
-        Value::Unusable => Number32::Refused(PropError::Unusable),
-    }
-}
-
-fn u64_of(value: &[u8]) -> Number64
-    ensures { λ r. ⌜ number64Outcome r ≡ asNumber 8 (now (value .entry)) ⌝ }
-{
-    match reader::read_be_u64(value, 0) {
-        Long::Got(n) => Number64::Got(n),
-        Long::Short => Number64::Refused(PropError::Short),
+    match begin_of(prop_raw(b, nodes, count, props, many, row, name), 4) {
+        Begin::At(at) => Number32::Got(reader::word_at(b, at)),
+        Begin::Refused(e) => Number32::Refused(e),
     }
 }
 
@@ -88,16 +89,15 @@ pub fn prop_u64(
 ) -> Number64
     ensures { λ r. ⌜ number64Numbers r ≡ numbers itself (prop-u64 (now (b .entry)) (lent (now (nodes .entry)) count (now (props .entry)) many) row (now (name .entry))) ⌝ }
 {
-    match prop_raw(b, nodes, count, props, many, row, name) {
-        Value::Part { start, len } => u64_of(&b[start..start + len]),
-        Value::Nothing => Number64::Refused(PropError::NotFound),
-        Value::Unusable => Number64::Refused(PropError::Unusable),
+    match begin_of(prop_raw(b, nodes, count, props, many, row, name), 8) {
+        Begin::At(at) => Number64::Got(reader::long_at(b, at)),
+        Begin::Refused(e) => Number64::Refused(e),
     }
 }
 
 // The text of a value that starts there: all but its last byte, which is 0.
 fn text_of(value: &[u8], start: usize) -> Text
-    ensures { λ r. ⌜ textOutcome r ≡ textAt start (asString (now (value .entry))) ⌝ }
+    ensures { λ r. ⌜ textOutcome r ≡ spanAt start (asString (now (value .entry))) ⌝ }
 {
     let len = value.len();
     if len == 0 {

@@ -10,35 +10,25 @@ use Rattle.format.proofs.Answer.{then-refused}
 use Rattle.values.specs.Answers.{textOutcome, whyOf}
 use Rattle.values.specs.declared.PropError.the-variants as why
 use Rattle.values.specs.declared.Text.the-variants.{Refused}
-use Rattle.lookup.proofs.Outcomes.{value-part, value-nothing, value-unusable}
+use Rattle.lookup.proofs.Outcomes.{value-inside, value-part, value-nothing, value-unusable}
 use Rattle.values.proofs.Outcomes.{text-promise}
-use Rattle.format.proofs.Inside.{raw-inside}
 use Rattle.values.proofs.ValueLaws.{text-of}
 use Rattle.values.proofs.prop_str.Statement.{statement}
 use Rattle.values.proofs.prop_str.Tie as tie
 
-add-text-of : tie.Need-add-text-of
-add-text-of c =
-    let found = c .before .start .given in
-    let call = c .before .before .before in
-    let a = call .before .before .before .before .before .args in
-    let fits : found .0 .0 + found .0 .1 .0 ≤ length (now (a .b)) = raw-inside (now (a .b)) _ (a .row) (now (a .name)) _ (value-part _ (call .prop-raw .ensures) (found .1)) in
-    omega arith
+abbrev begun : tie.After-prop-raw → tie.Start
+begun c = c .before .before .before .before .before
 
-part-text-of-end : tie.Need-part-text-of-end
-part-text-of-end c =
-    let found = c .before .start .given in
-    let call = c .before .before .before in
-    let a = call .before .before .before .before .before .args in
-    let fits : found .0 .0 + found .0 .1 .0 ≤ length (now (a .b)) = raw-inside (now (a .b)) _ (a .row) (now (a .name)) _ (value-part _ (call .prop-raw .ensures) (found .1)) in
-    omega arith
+fits : (c : tie.After-start) → c .start .given .0 .0 + c .start .given .0 .1 .0 ≤ length (now (begun (c .before .before) .args .b))
+fits c = value-inside _ _ _ _ (c .before .before .prop-raw .ensures) (c .start .given .1)
 
 returns : tie.Need-returns
 unfolding prop-str
 returns c =
-    let found = c .before .before .before .start .given in
-    let is = value-part _ (c .before .before .before .before .before .prop-raw .ensures) (found .1) in
-    text-promise _ (c .text-of .ensures ∙ text-of _ is (found .0 .0 + found .0 .1 .0 - found .0 .0) (omega arith))
+    let found = c .before .before .before in
+    let start = found .start .given .0 .0 in
+    let is = value-part _ (found .before .before .prop-raw .ensures) (found .start .given .1) in
+    text-promise _ (c .text-of .ensures ∙ text-of _ is (start + found .start .given .0 .1 .0 - start) (omega arith))
 
 returns-2 : tie.Need-returns-2
 unfolding prop-str textOutcome whyOf
@@ -54,10 +44,10 @@ prop-str-spec =
     (tie.spec
     (λ c κs. search needs)
     (λ c. search needs)
-    add-text-of
+    (λ c. omega (arith, fits (c .before)))
     (λ c. search needs)
     (λ c. search needs)
-    part-text-of-end
+    (λ c. omega (arith, fits (c .before)))
     (λ c κs. search needs)
     (λ c. search needs)
     (λ c. search needs)

@@ -9,26 +9,17 @@ use Rattle.format.proofs.Inside.{str-inside, bytes-there, bytes-none}
 use Rattle.values.proofs.prop_str_part.Statement.{statement}
 use Rattle.values.proofs.prop_str_part.Tie as tie
 
-add-result : tie.Need-add-result
-add-result c =
-    let found = c .before .start .given in
-    let call = c .before .before .before in
-    let a = call .before .before .before .before .before .args in
-    let fits : found .0 .0 + found .0 .1 .0 ≤ length (now (a .b)) = str-inside (now (a .b)) _ (a .row) (now (a .name)) _ (text-part _ (call .prop-str .ensures) (found .1)) in
-    omega arith
+abbrev begun : tie.After-prop-str → tie.Start
+begun c = c .before .before .before .before .before
 
-part-result-end : tie.Need-part-result-end
-part-result-end c =
-    let found = c .before .start .given in
-    let call = c .before .before .before in
-    let a = call .before .before .before .before .before .args in
-    let fits : found .0 .0 + found .0 .1 .0 ≤ length (now (a .b)) = str-inside (now (a .b)) _ (a .row) (now (a .name)) _ (text-part _ (call .prop-str .ensures) (found .1)) in
-    omega arith
+fits : (c : tie.After-start) → c .start .given .0 .0 + c .start .given .0 .1 .0 ≤ length (now (begun (c .before .before) .args .b))
+fits c = str-inside _ _ _ _ _ (text-part _ (c .before .before .prop-str .ensures) (c .start .given .1))
 
 returns : tie.Need-returns
 returns c =
-    let found = c .before .before .start .given in
-    bytes-there _ (text-part _ (c .before .before .before .before .prop-str .ensures) (found .1)) (found .0 .0 + found .0 .1 .0 - found .0 .0) (omega arith)
+    let found = c .before .before in
+    let start = found .start .given .0 .0 in
+    bytes-there _ (text-part _ (found .before .before .prop-str .ensures) (found .start .given .1)) (start + found .start .given .0 .1 .0 - start) (omega arith)
 
 returns-2 : tie.Need-returns-2
 returns-2 c = bytes-none _ (text-refused _ (c .before .before .before .prop-str .ensures) (c .before .enum-told .given .1))
@@ -39,10 +30,10 @@ prop-str-part-spec =
     (tie.spec
     (λ c κs. search needs)
     (λ c. search needs)
-    add-result
+    (λ c. omega (arith, fits (c .before)))
     (λ c. search needs)
     (λ c. search needs)
-    part-result-end
+    (λ c. omega (arith, fits (c .before)))
     (λ c. search needs)
     (λ c. search needs)
     (λ c. search needs)

@@ -1,66 +1,30 @@
--- `prop_u32` meets its contract: what `u32_of` makes of the value that `prop_raw` tells the place of. Assumes nothing.
-use Prim.Native.Nat.{_+_, _-_, _≤_}
-use native.Mathlib.Omega.{arith}
-use mathlib.Core.Path.{sym, _∙_}
+-- `prop_u32` meets its contract: the number of 4 bytes where `begin_of` says that the value begins. Assumes nothing.
+use mathlib.Core.Path.{_∙_, ap}
 use borrow.Author.Needs.{needs}
-use denote.Ref.{now}
-use lib.ListN.{length}
+use Rattle.format.specs.Answer.{ok}
 use Rattle.format.specs.Lookup.{prop-u32}
-use Rattle.format.proofs.Answer.{then-refused}
-use Rattle.values.specs.Answers.{number32Outcome, whyOf}
-use Rattle.values.specs.declared.PropError.the-variants as why
-use Rattle.values.specs.declared.Number32.the-variants.{Refused}
-use Rattle.lookup.proofs.Outcomes.{value-part, value-nothing, value-unusable}
+use Rattle.values.specs.Answers.{number32Outcome}
+use Rattle.values.specs.declared.Number32.the-variants.{Got, Refused}
 use Rattle.values.proofs.Outcomes.{number32-promise}
-use Rattle.format.proofs.Inside.{raw-inside}
-use Rattle.values.proofs.ValueLaws.{number-of}
+use Rattle.values.proofs.ValueLaws.{number-got, number-not}
 use Rattle.values.proofs.prop_u32.Statement.{statement}
 use Rattle.values.proofs.prop_u32.Tie as tie
 
-add-u32-of : tie.Need-add-u32-of
-add-u32-of c =
-    let found = c .before .start .given in
-    let call = c .before .before .before in
-    let a = call .before .before .before .before .before .args in
-    let fits : found .0 .0 + found .0 .1 .0 ≤ length (now (a .b)) = raw-inside (now (a .b)) _ (a .row) (now (a .name)) _ (value-part _ (call .prop-raw .ensures) (found .1)) in
-    omega arith
-
-part-u32-of-end : tie.Need-part-u32-of-end
-part-u32-of-end c =
-    let found = c .before .start .given in
-    let call = c .before .before .before in
-    let a = call .before .before .before .before .before .args in
-    let fits : found .0 .0 + found .0 .1 .0 ≤ length (now (a .b)) = raw-inside (now (a .b)) _ (a .row) (now (a .name)) _ (value-part _ (call .prop-raw .ensures) (found .1)) in
-    omega arith
-
 returns : tie.Need-returns
-unfolding prop-u32
+unfolding prop-u32 number32Outcome
 returns c =
-    let found = c .before .before .before .start .given in
-    let is = value-part _ (c .before .before .before .before .before .prop-raw .ensures) (found .1) in
-    number32-promise _ (c .u32-of .ensures ∙ number-of _ is (found .0 .0 + found .0 .1 .0 - found .0 .0) (omega arith) 4)
+    let found = c .before .before in
+    let begun = found .before .before in
+    number32-promise (Got _)
+    (ap ok (c .word-at .ensures) ∙ number-got _ _ _ _ 4 _ _ (begun .before .prop-raw .ensures) (begun .begin-of .ensures) (found .at .given .1))
 
 returns-2 : tie.Need-returns-2
-unfolding prop-u32 number32Outcome whyOf
-returns-2 c = number32-promise (Refused why.NotFound) (sym (then-refused _ _ (value-nothing _ (c .before .before .prop-raw .ensures) (c .enum-told .given .1))))
-
-returns-3 : tie.Need-returns-3
-unfolding prop-u32 number32Outcome whyOf
-returns-3 c = number32-promise (Refused why.Unusable) (sym (then-refused _ _ (value-unusable _ (c .before .before .prop-raw .ensures) (c .enum-told2 .given .1))))
+unfolding prop-u32 number32Outcome
+returns-2 c =
+    let begun = c .before .before .before in
+    number32-promise (Refused _) (number-not _ _ _ _ 4 _ _ (begun .before .prop-raw .ensures) (begun .begin-of .ensures) (c .before .e .given .1))
 
 pub prop-u32-spec : {M : Type 1} → statement M
 prop-u32-spec =
     tie.close
-    (tie.spec
-    (λ c κs. search needs)
-    (λ c. search needs)
-    add-u32-of
-    (λ c. search needs)
-    (λ c. search needs)
-    part-u32-of-end
-    (λ c κs. search needs)
-    (λ c. search needs)
-    (λ c. search needs)
-    returns
-    returns-2
-    returns-3)
+    (tie.spec (λ c κs. search needs) (λ c κs. search needs) (λ c. search needs) (λ c κs. search needs) (λ c. search needs) returns returns-2)

@@ -55,32 +55,30 @@ judged c = c .links-are-good .ensures _ (nodes-length _ _) (own (c .before))
 abbrev start : tie.At-loop Inv-loop μ-loop → Begun
 start c = begun (c .before .before .before)
 
+abbrev top : tie.After-name-end Inv-loop μ-loop → tie.At-loop Inv-loop μ-loop
+top c = c .before .before
+
 abbrev name : tie.After-name-end Inv-loop μ-loop → List ℕ
-name c = part (now (c .before .before .loop .rest)) 0 (c .name-end .result - 0)
+name c = part (now (top c .loop .rest)) 0 (c .name-end .result - 0)
 
-abbrev Sought : tie.After-name-end Inv-loop μ-loop → Outcome ℕ
-Sought c =
-    let top = c .before .before in
-    childFrom (now (start top .args .s)) (rowsOf (start top)) (length (rowsOf (start top))) (top .loop .first) (name c)
+abbrev sought : tie.After-name-end Inv-loop μ-loop → Outcome ℕ
+sought c = let st = start (top c) in childFrom (now (st .args .s)) (rowsOf st) (length (rowsOf st)) (top c .loop .first) (name c)
 
-no-child : (c : tie.After-name-end Inv-loop μ-loop) (r : Refusal) → Sought c ≡ refused r → refused r ≡ goal (start (c .before .before))
-no-child c r e = way-refused _ _ _ _ _ _ (c .before .before .loop .inv .1) (c .before .loop-test .taken) _ _ (name-lent _ _ (c .name-end .ensures)) refl r e
+no-child : (c : tie.After-name-end Inv-loop μ-loop) (r : Refusal) → sought c ≡ refused r → refused r ≡ goal (start (top c))
+no-child c r e = way-refused _ _ _ _ _ _ (top c .loop .inv .1) (c .before .loop-test .taken) _ _ (name-lent _ _ (c .name-end .ensures)) refl r e
 
 -- a child was found
-a-child : (c : tie.After-child Inv-loop μ-loop) (later : List ℕ) → text.rest (now (c .before .before .before .before .before .before .loop .rest)) ≡ later
-    → Way
-    (now (start (c .before .before .before .before .before .before) .args .s))
-    (rowsOf (start (c .before .before .before .before .before .before)))
-    (goal (start (c .before .before .before .before .before .before)))
-    (c .child .given .0 .0)
-    (c .child .given .0 .1 .0)
-    later
+abbrev named : tie.After-child Inv-loop μ-loop → tie.After-name-end Inv-loop μ-loop
+named c = c .before .before .before .before
+
+abbrev WayOn : tie.After-child Inv-loop μ-loop → List ℕ → Type 0
+WayOn c later = let st = start (top (named c)) in Way (now (st .args .s)) (rowsOf st) (goal st) (c .child .given .0 .0) (c .child .given .0 .1 .0) later
+
+a-child : (c : tie.After-child Inv-loop μ-loop) (later : List ℕ) → text.rest (now (top (named c) .loop .rest)) ≡ later → WayOn c later
 unfolding part
 a-child c later e =
-    let call = c .before .before in
-    let named = call .before .before in
-    let is = gives-at _ _ _ _ (call .child-named .ensures) (c .child .given .1) in
-    way-down _ _ _ _ _ _ (named .before .before .loop .inv .1) (named .before .loop-test .taken) _ _ (name-lent _ _ (named .name-end .ensures)) e _ _ (is .0) (is .1)
+    let is = gives-at _ _ _ _ (c .before .before .child-named .ensures) (c .child .given .1) in
+    way-down _ _ _ _ _ _ (top (named c) .loop .inv .1) (named c .before .loop-test .taken) _ _ (name-lent _ _ (named c .name-end .ensures)) e _ _ (is .0) (is .1)
 
 -- ---- the needs
 
@@ -99,9 +97,9 @@ loop-holds c =
 
 child-named-requires : tie.Need-child-named-requires Inv-loop μ-loop
 child-named-requires c κs =
-    let top = c .before .before .before in
-    let way = top .loop .inv .1 in
-    record { low = top .loop .row; below = rw nodes-length at (way .there); room = start top .pre .1; good = way .good }
+    let here = top (c .before) in
+    let way = here .loop .inv .1 in
+    record { low = here .loop .row; below = rw nodes-length at (way .there); room = start here .pre .1; good = way .good }
 
 returns-2 : tie.Need-returns-2 Inv-loop μ-loop
 unfolding foundOutcome part
@@ -119,19 +117,18 @@ returns-4 : tie.Need-returns-4 Inv-loop μ-loop
 unfolding foundOutcome
 returns-4 c =
     let told = c .before .before in
-    way-end _ _ _ _ _ _ (a-child told _ (rest-later _ _ (told .before .before .before .before .name-end .ensures))) (rw length-drop (omega (arith, c .if2 .taken)))
+    way-end _ _ _ _ _ _ (a-child told _ (rest-later _ _ (named told .name-end .ensures))) (rw length-drop (omega (arith, c .if2 .taken)))
 
 add-rest : tie.Need-add-rest Inv-loop μ-loop
 add-rest c =
-    let top = c .before .before .before .before .before .before .before .before in
-    omega (arith, c .if2 .left, top .loop .inv .0, start top .good .1 .1 .1 .1 .0 .0)
+    let here = top (named (c .before .before)) in
+    omega (arith, c .if2 .left, here .loop .inv .0, start here .good .1 .1 .1 .1 .0 .0)
 
 loop-again : tie.Need-loop-again Inv-loop μ-loop
 unfolding part
 loop-again c =
     let told = c .before .before .before in
-    let named = told .before .before .before .before in
-    (omega (arith, c .rest .given .2, named .before .before .loop .inv .0), a-child told _ (rest-lent _ _ (named .name-end .ensures)))
+    (omega (arith, c .rest .given .2, top (named told) .loop .inv .0), a-child told _ (rest-lent _ _ (named told .name-end .ensures)))
 
 returns-5 : tie.Need-returns-5 Inv-loop μ-loop
 unfolding foundOutcome
