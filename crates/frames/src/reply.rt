@@ -5,15 +5,12 @@ ghost use Rattle.frames.specs.Frames.{loadReply, frameReply};
 use answers::Answer;
 use lines::Count;
 
-// The most bytes that a frame may have.
-const FRAME: usize = 8192;
+// The numbers of the tables.
+const RESERVED: usize = lines::RESERVATION_ROWS * format::RESERVATION_WIDTH;
 
-// Room for 64 reservations, 512 nodes and 512 properties.
-const RESERVED: usize = 64 * format::RESERVATION_WIDTH;
+const NODES: usize = lines::NODE_ROWS * format::NODE_WIDTH;
 
-const NODES: usize = 512 * format::NODE_WIDTH;
-
-const PROPS: usize = 512 * format::PROPERTY_WIDTH;
+const PROPS: usize = lines::PROPERTY_ROWS * format::PROPERTY_WIDTH;
 
 // A load of a frame into tables of our own.
 fn load(b: &[u8]) -> Answer
@@ -29,7 +26,7 @@ fn load(b: &[u8]) -> Answer
 pub fn reply(line: &[u8]) -> Answer
     ensures { λ r. ⌜ answerNumbers r ≡ frameReply (now (line .entry)) ⌝ }
 {
-    let mut frame = [0u8; FRAME];
+    let mut frame = [0u8; lines::BYTES];
     match lines::hex(line, &mut frame) {
         Count::Bad => Answer::Alone(lines::BAD),
         Count::Is(len) => load(text::upto(&frame, len)),

@@ -6,11 +6,9 @@ ghost use Rattle.letters.specs.Replies.{rounded, twoOf, numbersReply, re
 ghost use Rattle.letters.specs.Replies as replies;
 use answers::Answer;
 use lines::BAD;
+use lines::BYTES;
 use lines::Count;
 use lines::Number;
-
-// The most bytes that a byte string may have.
-const BYTES: usize = 8192;
 
 // Two numbers.
 enum Two {

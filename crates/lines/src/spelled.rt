@@ -3,6 +3,7 @@ ghost use mathlib.Core.Path.{_≡_};
 ghost use lib.ListN.{length};
 ghost use Rattle.lines.specs.Fields.{digitOf, pairOf, numberOf, hexOf, bytesOf, gathered, wordsOf, Put};
 use crate::Count;
+use crate::NODE_ROWS;
 use crate::Number;
 
 // The most digits that a number may have.
@@ -11,7 +12,7 @@ const DIGITS: usize = 20;
 // How many bytes a word has, and the largest table.
 const WORD_BYTES: usize = 4;
 
-const TABLE_BYTES: usize = 14336;
+const TABLE_BYTES: usize = NODE_ROWS * format::NODE_WIDTH * WORD_BYTES;
 
 // The value of a hexadecimal digit of either case, 16 for any other byte.
 fn digit(b: u8) -> usize

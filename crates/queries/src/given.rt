@@ -1,7 +1,4 @@
-// The letter R: rows from elsewhere, and what a path and a name find in them. The fields are read one after the other, each by a
-// function that has room for what it spells and hands it on.
-use crate::BYTES;
-use crate::NAME;
+// The letter R: rows from elsewhere, and what a path and a name find in them.
 use crate::NODES;
 use crate::PROPERTIES;
 use crate::lookups;
@@ -9,7 +6,9 @@ use crate::lookups::Looked;
 use crate::lookups::Names;
 use crate::lookups::Rows;
 use crate::tables;
+use lines::BYTES;
 use lines::Count;
+use lines::NAME;
 use lines::Number;
 
 // The numbers of a line.

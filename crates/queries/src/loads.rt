@@ -1,7 +1,5 @@
 // The letter T: a blob is loaded into tables of sevens. The answer has parts: load's answer, the used rows, and what a path and
 // a name find in them.
-use crate::BYTES;
-use crate::NAME;
 use crate::NODES;
 use crate::PROPERTIES;
 use crate::RESERVATIONS;
@@ -10,7 +8,9 @@ use crate::lookups::Names;
 use crate::lookups::Rows;
 use crate::tables;
 use answers::Answer;
+use lines::BYTES;
 use lines::Count;
+use lines::NAME;
 use loader::Loaded;
 use lookup::Found;
 use text::Output;

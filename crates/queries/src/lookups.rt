@@ -47,6 +47,7 @@ pub fn read(s: &[u8], path: &mut [u8], name: &mut [u8]) -> Names {
     Names::Are { path: m, name: n }
 }
 
+// What a name finds at a row.
 pub fn named(b: &[u8], nodes: &[u32], props: &[u32], at: Rows, name: &[u8]) -> Property {
     let n = at.nodes;
     let p = at.props;
@@ -69,7 +70,7 @@ pub fn all(b: &[u8], nodes: &[u32], props: &[u32], at: Rows, path: &[u8], name: 
     }
 }
 
-// As parts that follow others.
+// The five answers, as parts that follow others.
 pub fn put_property(text: &mut [u8; ROOM], out: Output, found: Property) -> Output {
     let has = found.has;
     let raw = found.raw;
@@ -83,6 +84,7 @@ pub fn put_property(text: &mut [u8; ROOM], out: Output, found: Property) -> Outp
     replies::further(text, told, long)
 }
 
+// All of it, or 16 for a bad line.
 pub fn put(text: &mut [u8; ROOM], out: Output, looked: Looked) -> Output {
     match looked {
         Looked::Bad => replies::put(text, out, Answer::Alone(lines::BAD)),

@@ -10,23 +10,12 @@ use lines::LINE;
 use text::Output;
 use text::ROOM;
 
-// The most bytes that a blob may have, and a path or a name.
-const BYTES: usize = 8192;
+// The numbers of the tables.
+const RESERVATIONS: usize = lines::RESERVATION_ROWS * format::RESERVATION_WIDTH;
 
-const NAME: usize = 1024;
+const NODES: usize = lines::NODE_ROWS * format::NODE_WIDTH;
 
-// The rows of the tables, and their numbers.
-const RESERVATION_ROWS: usize = 64;
-
-const NODE_ROWS: usize = 512;
-
-const PROPERTY_ROWS: usize = 512;
-
-const RESERVATIONS: usize = RESERVATION_ROWS * format::RESERVATION_WIDTH;
-
-const NODES: usize = NODE_ROWS * format::NODE_WIDTH;
-
-const PROPERTIES: usize = PROPERTY_ROWS * format::PROPERTY_WIDTH;
+const PROPERTIES: usize = lines::PROPERTY_ROWS * format::PROPERTY_WIDTH;
 
 // The line's answer, by its letter.
 fn answer(line: &[u8], out: Output, text: &mut [u8; ROOM]) -> Output {

@@ -1,11 +1,11 @@
 // The numbers of tables, and as text.
 ghost use Prim.Native.Nat.{_≤_};
-use crate::NODE_ROWS;
-use crate::PROPERTY_ROWS;
-use crate::RESERVATION_ROWS;
 use format::NODE_WIDTH;
 use format::PROPERTY_WIDTH;
 use format::RESERVATION_WIDTH;
+use lines::NODE_ROWS;
+use lines::PROPERTY_ROWS;
+use lines::RESERVATION_ROWS;
 use loader::Loaded;
 use survey::DeviceTree;
 use text::Output;
@@ -38,7 +38,7 @@ fn least(rows: usize, most: usize) -> usize
 
 // Begins a part of an answer that tells so many numbers: `-` where there are none.
 fn begin(text: &mut [u8; ROOM], from: Output, count: usize) -> Output {
-    let out = text::bytes(text, from, b" ;");
+    let out = replies::part(text, from);
     if count == 0 {
         return text::bytes(text, out, b" -");
     }

@@ -19,13 +19,14 @@ pub fn put(text: &mut [u8; ROOM], from: Output, answer: Answer) -> Output {
     out
 }
 
-// What stands between two parts of a line's answer.
+// Begins a part of a line's answer that follows another. What it tells comes after a space.
 pub fn part(text: &mut [u8; ROOM], out: Output) -> Output {
-    text::bytes(text, out, b" ; ")
+    text::bytes(text, out, b" ;")
 }
 
 // An answer as a part that follows others.
 pub fn further(text: &mut [u8; ROOM], out: Output, answer: Answer) -> Output {
     let begun = part(text, out);
-    put(text, begun, answer)
+    let apart = text::byte(text, begun, b' ');
+    put(text, apart, answer)
 }
