@@ -9,7 +9,7 @@ use lib.Dec.{leb}
 use lib.ListN.{length, take, drop, getD}
 use lib.Seq.{length-take-le, take-take}
 use borrow.Author.Tests.{leb-true, le-leb, lt-leb, eq-eqb, ne-eqb}
-use Rattle.format.specs.Answer.{Refusal, Outcome, ok, refused, _>>=_, Span, numbers, place, spanAt, orZero, nothingFound, notUsable, utf8Error, missing0, tooShort}
+use Rattle.format.specs.Answer.{Refusal, Outcome, ok, refused, _>>=_, Span, numbers, place, spanAt, orElse, orZero, nothingFound, notUsable, utf8Error, missing0, tooShort}
 use Rattle.format.specs.Bytes.{part, valueAt}
 use Rattle.format.specs.Read.{read-be, utf8Check}
 use Rattle.format.specs.Find.{asNumber, ends0, asString}
@@ -63,7 +63,7 @@ module _ (b : List ℕ) (k : ℕ) where
     size = part-length b (v .offset) (v .size) fits
 
     number-there : k ≤ v .size → asNumber k (bytesOf b v) ≡ ok (orZero (read-be k b (v .offset)))
-    unfolding asNumber bytesOf part valueAt orZero
+    unfolding asNumber bytesOf part valueAt orZero orElse
     number-there h =
         let same : take k (take (v .size) (drop (v .offset) b)) ≡ take k (drop (v .offset) b) = take-take k (v .size) (drop (v .offset) b) h in
         then-ok _ _ (check-ok _ (rw size (le-leb k (v .size) h))) (rw (read-there b k (v .offset) (omega arith), same))
