@@ -1,30 +1,51 @@
-// A file's bytes, in a buffer whose length is the most that is read.
+// A file's bytes, in the room for them.
 use crate::BLOB;
+use crate::args;
 use crate::fill;
-use crate::output;
-use crate::output::Output;
 
-// How many bytes a file has, or why they are not there; where nothing better is known, by errno.
-pub enum Contents {
+// What is said where there are none: how all lines begin, and how each of them ends.
+const LINES: [u8; 182] = *b"dt: @
+: empty
+: longer than ^ bytes, which is all that dt reads
+: no such file
+: a directory, not a file
+: no permission to read it
+: the name is too long
+: cannot be read (error ^)
+";
+
+const EMPTY: u64 = 1;
+
+const TOO_LONG: u64 = 2;
+
+const MISSING: u64 = 3;
+
+const DIRECTORY: u64 = 4;
+
+const NO_PERMISSION: u64 = 5;
+
+const LONG_NAME: u64 = 6;
+
+const UNREADABLE: u64 = 7;
+
+// How many bytes a file has; or the line that tells why they are not there, and the number in it.
+enum Contents {
     Bytes(usize),
-    TooLong,
-    Missing,
-    Directory,
-    NoPermission,
-    NameTooLong,
-    Unreadable(u64),
+    Unread { line: u64, n: u64 },
+}
+
+fn unread(line: u64, n: u64) -> Contents {
+    Contents::Unread { line, n }
 }
 
 // Why a call failed, by errno.
 fn failure(errno: i32) -> Contents {
     match errno {
-        libc::ENOENT => Contents::Missing,
-        libc::ENOTDIR => Contents::Missing,
-        libc::EISDIR => Contents::Directory,
-        libc::EACCES => Contents::NoPermission,
-        libc::EPERM => Contents::NoPermission,
-        libc::ENAMETOOLONG => Contents::NameTooLong,
-        _ => Contents::Unreadable(number(errno)),
+        libc::ENOENT | libc::ENOTDIR => unread(MISSING, 0),
+        libc::EISDIR => unread(DIRECTORY, 0),
+        libc::EACCES | libc::EPERM => unread(NO_PERMISSION, 0),
+        libc::ENAMETOOLONG => unread(LONG_NAME, 0),
+        _ => unread(UNREADABLE, number(errno)),
     }
 }
 
@@ -35,26 +56,38 @@ fn number(errno: i32) -> u64 {
     errno as u64
 }
 
-// All that the descriptor gives. A read after the last one tells an end from a failure and from bytes that had no room.
-fn all(fd: i32, blob: &mut [u8]) -> Contents {
-    let n = io::read_full(fd, blob);
-    let mut more = [0u8; 1];
-    let got = libc::read(fd, &mut more);
-    if got < 0 {
+// What a file of so many bytes comes to, after a read that tells an end from a failure and from bytes that had no room.
+fn judged(n: usize, more: isize) -> Contents {
+    if more < 0 {
         return failure(os::errno());
     }
-    if got == 0 {
-        return Contents::Bytes(n);
+    if 0 < more {
+        if n < BLOB {
+            return unread(UNREADABLE, 0);
+        }
+        return unread(TOO_LONG, BLOB as u64);
     }
-    if n < blob.len() {
-        return Contents::Unreadable(0);
+    if n == 0 {
+        return unread(EMPTY, 0);
     }
-    Contents::TooLong
+    Contents::Bytes(n)
 }
 
-// The file of that name.
-pub fn read(name: &[u8], blob: &mut [u8]) -> Contents {
-    let fd = os::open_read(name);
+// All that the descriptor gives.
+fn all(fd: i32, blob: &mut [u8; BLOB]) -> Contents {
+    let n = io::read_full(fd, blob);
+    let mut more = [0u8; 1];
+    judged(n, libc::read(fd, &mut more))
+}
+
+fn open() -> i32 {
+    let mut name = io::buffer();
+    let n = os::arg(args::FILE, &mut name);
+    os::open_read(text::upto(&name, n))
+}
+
+fn get(blob: &mut [u8; BLOB]) -> Contents {
+    let fd = open();
     if fd < 0 {
         return failure(os::errno());
     }
@@ -63,29 +96,13 @@ pub fn read(name: &[u8], blob: &mut [u8]) -> Contents {
     contents
 }
 
-// Why there are no bytes, in the order of the answers.
-const LINES: [u8; 211] = *b"dt: @: empty
-dt: @: longer than # bytes, which is all that dt reads
-dt: @: no such file
-dt: @: a directory, not a file
-dt: @: no permission to read it
-dt: @: the name is too long
-dt: @: cannot be read (error #)
-";
-
-// A line of those, with what stands in it.
-fn told(text: &mut [u8], name: &[u8], line: u64, n: u64) -> Output {
-    fill::line(text, output::wrong(), &LINES, line, name, n, 0)
-}
-
-pub fn complain(text: &mut [u8], name: &[u8], why: Contents) -> Output {
-    match why {
-        Contents::Bytes(_) => told(text, name, 0, 0),
-        Contents::TooLong => told(text, name, 1, BLOB as u64),
-        Contents::Missing => told(text, name, 2, 0),
-        Contents::Directory => told(text, name, 3, 0),
-        Contents::NoPermission => told(text, name, 4, 0),
-        Contents::NameTooLong => told(text, name, 5, 0),
-        Contents::Unreadable(errno) => told(text, name, 6, errno),
+// How many bytes the file has: none where a line has told why.
+pub fn read(blob: &mut [u8; BLOB]) -> usize {
+    match get(blob) {
+        Contents::Bytes(n) => n,
+        Contents::Unread { line, n } => {
+            fill::wrong(&LINES, line, fill::one(n));
+            0
+        }
     }
 }

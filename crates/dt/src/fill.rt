@@ -1,48 +1,78 @@
-// Lines of our own with places for what is not: one call a line.
+// Lines of our own with places for what is not. A list of lines is named by a constant of its module, and a line of it by its
+// number, counted from 0.
 ghost use Prim.Native.Nat.{_≤_};
-use crate::output;
-use crate::output::Output;
-use crate::show;
+use crate::args;
+use show::escape;
+use text::Output;
+use text::ROOM;
 
-// What stands for a byte of a line: `@` the words, `#` the first number, `$` the same in hexadecimal, `^` the second one,
-// `%` the same in hexadecimal, `~` in 8 digits or more. Any other byte is itself.
-fn place(text: &mut [u8], out: Output, c: u8, words: &[u8], first: u64, second: u64) -> Output {
-    match c {
-        b'@' => show::line(text, out, words),
-        b'#' => output::number(text, out, first),
-        b'$' => output::hex(text, out, first, 1),
-        b'^' => output::number(text, out, second),
-        b'%' => output::hex(text, out, second, 1),
-        b'~' => output::hex(text, out, second, 8),
-        _ => output::byte(text, out, c),
+// The numbers in a line: that of a refusal, and two more.
+pub struct Numbers {
+    pub code: u64,
+    pub first: u64,
+    pub second: u64,
+}
+
+pub fn one(first: u64) -> Numbers {
+    two(first, 0)
+}
+
+pub fn two(first: u64, second: u64) -> Numbers {
+    Numbers {
+        code: 0,
+        first,
+        second,
     }
 }
 
-// The first line of those that begin there, up to and with its line end, with its places filled.
-fn filled(
-    text: &mut [u8],
-    from: Output,
-    lines: &[u8],
-    start: usize,
-    words: &[u8],
-    first: u64,
-    second: u64,
-) -> Output {
-    let mut out = from;
-    let mut i = start;
-    while i < lines.len() {
-        let c = lines[i];
-        out = place(text, out, c, words, first, second);
-        i += 1;
-        if c == b'\n' {
-            return out;
-        }
+// A word of the command line.
+fn word(text: &mut [u8; ROOM], out: Output, place: usize) -> Output {
+    let mut room = io::buffer();
+    let n = os::arg(place, &mut room);
+    escape::line(text, out, text::upto(&room, n))
+}
+
+// What stands for a byte of a line.
+enum Place {
+    Word(usize),
+    Number(u64),
+    Hex { n: u64, digits: usize },
+    Itself,
+}
+
+// `?` is the command, `@` the file, `&` the path, `!` the name; `#` the number of a refusal, `^` the first number, `$` the same in
+// hexadecimal, `*` the second one, `%` the same in hexadecimal, `~` in 8 digits or more. Any other byte is itself.
+fn place_of(c: u8, n: Numbers) -> Place {
+    match c {
+        b'?' => Place::Word(args::COMMAND),
+        b'@' => Place::Word(args::FILE),
+        b'&' => Place::Word(args::PATH),
+        b'!' => Place::Word(args::NAME),
+        b'#' => Place::Number(n.code),
+        b'^' => Place::Number(n.first),
+        b'$' => hex(n.first, 1),
+        b'*' => Place::Number(n.second),
+        b'%' => hex(n.second, 1),
+        b'~' => hex(n.second, 8),
+        _ => Place::Itself,
     }
-    out
+}
+
+fn hex(n: u64, digits: usize) -> Place {
+    Place::Hex { n, digits }
+}
+
+fn put(text: &mut [u8; ROOM], out: Output, c: u8, place: Place) -> Output {
+    match place {
+        Place::Word(at) => word(text, out, at),
+        Place::Number(n) => text::number(text, out, n),
+        Place::Hex { n, digits } => text::hex(text, out, n, digits),
+        Place::Itself => text::byte(text, out, c),
+    }
 }
 
 // 1 for a line end.
-fn end(c: u8) -> u64
+pub fn end(c: u8) -> u64
     ensures { λ r. ⌜ r ≤ 1 ⌝ }
 {
     if c == b'\n' {
@@ -51,7 +81,7 @@ fn end(c: u8) -> u64
     0
 }
 
-// Where the line of that number begins, counted from 0.
+// Where the line of that number begins.
 fn start(lines: &[u8], number: u64) -> usize {
     let mut left = number;
     let mut i = 0;
@@ -65,43 +95,75 @@ fn start(lines: &[u8], number: u64) -> usize {
     i
 }
 
-// The line of that number, with its places filled.
-pub fn line(
-    text: &mut [u8],
-    out: Output,
-    lines: &[u8],
-    number: u64,
-    words: &[u8],
-    first: u64,
-    second: u64,
-) -> Output {
-    filled(text, out, lines, start(lines, number), words, first, second)
-}
-
-// A line, or the beginning of one, with words.
-pub fn words(text: &mut [u8], out: Output, line: &[u8], words: &[u8]) -> Output {
-    filled(text, out, line, 0, words, 0, 0)
-}
-
-// The same with words and a number.
-pub fn numbered(text: &mut [u8], out: Output, line: &[u8], words: &[u8], n: u64) -> Output {
-    filled(text, out, line, 0, words, n, 0)
-}
-
-// The same with two numbers.
-pub fn numbers(text: &mut [u8], out: Output, line: &[u8], first: u64, second: u64) -> Output {
-    filled(text, out, line, 0, &line[0..0], first, second)
-}
-
-// How many there are of a thing, which is named for one and for any other number.
-pub fn counted(text: &mut [u8], out: Output, n: usize, one: &[u8], many: &[u8]) -> Output {
-    if n == 1 {
-        return numbers(text, out, one, 1, 0);
+// The line of that number without its end, its places filled.
+pub fn part(text: &mut [u8; ROOM], from: Output, lines: &[u8], number: u64, n: Numbers) -> Output {
+    let mut out = from;
+    let mut i = start(lines, number);
+    while i < lines.len() {
+        let c = lines[i];
+        if c == b'\n' {
+            return out;
+        }
+        out = put(text, out, c, place_of(c, n));
+        i += 1;
     }
-    numbers(text, out, many, n as u64, 0)
+    out
 }
 
-// The beginning of a line about a file, or all of it, for standard error.
-pub fn wrong(text: &mut [u8], line: &[u8], file: &[u8]) -> Output {
-    words(text, output::wrong(), line, file)
+// The same with its end.
+pub fn line(text: &mut [u8; ROOM], out: Output, lines: &[u8], number: u64, n: Numbers) -> Output {
+    let out = part(text, out, lines, number, n);
+    text::byte(text, out, b'\n')
+}
+
+// A line for standard error: the first of those, with which they all begin, and the one of that number.
+pub fn wrong(lines: &[u8], number: u64, n: Numbers) {
+    let mut text = [0u8; ROOM];
+    let out = part(&mut text, text::wrong(), lines, 0, n);
+    let out = line(&mut text, out, lines, number, n);
+    text::flush(&text, out);
+}
+
+// Hands out what waits, and tells where that cannot be done.
+pub fn done(text: &[u8; ROOM], out: Output) {
+    let told = text::flush(text, out);
+    if !told.works {
+        wrong(b"dt\n: standard output cannot be written\n", 1, one(0));
+    }
+}
+
+// How many there are of a thing: a line for one, and the next line for any other number.
+const COUNTS: [u8; 111] = *b", ^ reservation row
+, ^ reservation rows
+, ^ node
+, ^ nodes
+, ^ property
+, ^ properties
+, ^ child
+, ^ children
+";
+
+// The things that are counted, by the line for one.
+pub const RESERVATION: u64 = 0;
+
+pub const NODE: u64 = 2;
+
+pub const PROPERTY: u64 = 4;
+
+pub const CHILD: u64 = 6;
+
+// How many lines after the line for one.
+fn later(n: usize) -> u64
+    ensures { λ r. ⌜ r ≤ 1 ⌝ }
+{
+    if n == 1 {
+        return 0;
+    }
+    1
+}
+
+pub(crate) fn counted(text: &mut [u8; ROOM], out: Output, thing: u64, n: usize) -> Output
+    requires { ⌜ thing ≤ 6 ⌝ }
+{
+    part(text, out, &COUNTS, thing + later(n), one(n as u64))
 }

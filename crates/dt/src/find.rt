@@ -1,42 +1,63 @@
 // `dt find`: the node that a path names.
+use crate::answer;
+use crate::args;
 use crate::fill;
-use crate::output;
-use crate::output::Output;
-use crate::rows;
-use loader::DeviceTree;
 use lookup::Found;
+use show::fields;
+use text::Output;
+use text::ROOM;
+
+// Why there is no node, by the number of the refusal: 11, or 15, which no loaded tree gives.
+const REASONS: [u8; 65] = *b"dt: @
+
+
+
+
+
+
+
+
+
+
+: no node & (#)
+
+
+
+: its rows cannot be used (#)
+";
+
+pub fn wrong(found: Found) {
+    let n = answer::numbers(answers::of_found(found));
+    fill::wrong(&REASONS, n.code, n)
+}
+
+// The row of the node that the path names.
+pub fn row(b: &[u8], nodes: &[u32], count: usize) -> Found {
+    let mut room = io::buffer();
+    let n = os::arg(args::PATH, &mut room);
+    lookup::find(b, nodes, count, text::upto(&room, n))
+}
 
 // The line of a node that was found.
-fn found(text: &mut [u8], nodes: &[u32], count: usize, path: &[u8], row: usize) -> Output {
-    let out = fill::numbered(text, output::good(), b"@: row #, ", path, row as u64);
-    let props = rows::props_of(nodes, row);
-    let out = fill::counted(text, out, props, b"# property, ", b"# properties, ");
-    let children = rows::children(nodes, count, row);
-    fill::counted(text, out, children, b"# child\n", b"# children\n")
+fn line(text: &mut [u8; ROOM], row: usize, props: usize, children: usize) -> Output {
+    let out = fill::part(text, text::good(), b"&: row ^", 0, fill::one(row as u64));
+    let out = fill::counted(text, out, fill::PROPERTY, props);
+    let out = fill::counted(text, out, fill::CHILD, children);
+    text::byte(text, out, b'\n')
 }
 
-// 11.
-pub fn nothing(text: &mut [u8], file: &[u8], path: &[u8]) -> Output {
-    let out = fill::wrong(text, b"dt: @: no node ", file);
-    fill::words(text, out, b"@ (11)\n", path)
+fn good(nodes: &[u32], count: usize, row: usize) {
+    let props = fields::props_of(nodes, row);
+    let children = fields::children(nodes, count, row);
+    let mut text = [0u8; ROOM];
+    let out = line(&mut text, row, props, children);
+    fill::done(&text, out)
 }
 
-// 15, which no loaded tree gives.
-pub fn unusable(text: &mut [u8], file: &[u8]) -> Output {
-    fill::wrong(text, b"dt: @: its rows cannot be used (15)\n", file)
-}
-
-pub fn put(
-    text: &mut [u8],
-    file: &[u8],
-    b: &[u8],
-    nodes: &[u32],
-    tree: DeviceTree,
-    path: &[u8],
-) -> Output {
-    match lookup::find(b, nodes, tree.nodes, path) {
-        Found::Row(row) => found(text, nodes, tree.nodes, path, row),
-        Found::Nothing => nothing(text, file, path),
-        Found::Unusable => unusable(text, file),
+pub fn put(b: &[u8], nodes: &[u32], count: usize) {
+    let found = row(b, nodes, count);
+    match found {
+        Found::Row(row) => good(nodes, count, row),
+        _ => wrong(found),
     }
 }

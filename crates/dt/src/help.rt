@@ -3,50 +3,42 @@ use crate::BLOB;
 use crate::NODES;
 use crate::PROPERTIES;
 use crate::RESERVATIONS;
-use crate::args::Command;
 use crate::fill;
-use crate::output;
-use crate::output::Output;
-use loader::DEPTH;
+use format::DEPTH;
+use text::Output;
+use text::ROOM;
 
 // Command lines that make no sense. By the words at the end of these lines ./dt knows them.
-const NONSENSE: [u8; 374] = *b"dt: usage: dt check FILE: dt help tells more
-dt: usage: dt tree FILE: dt help tells more
-dt: usage: dt find FILE PATH: dt help tells more
-dt: usage: dt prop FILE PATH NAME [raw|str|u32|u64]: dt help tells more
-dt: usage: dt check|tree|find|prop|help ..: dt help tells more
-dt: unknown command '@': dt help lists them
-dt: word # is longer than 4096 bytes: dt help tells more
+const NONSENSE: [u8; 363] = *b"dt
+: usage: dt check FILE: dt help tells more
+: usage: dt tree FILE: dt help tells more
+: usage: dt find FILE PATH: dt help tells more
+: usage: dt prop FILE PATH NAME [raw|str|u32|u64]: dt help tells more
+: usage: dt check|tree|find|prop|help ..: dt help tells more
+: unknown command '?': dt help lists them
+: word ^ is longer than 4096 bytes: dt help tells more
 ";
 
-// A line of those, with what stands in it.
-fn told(text: &mut [u8], line: u64, word: &[u8], place: u64) -> Output {
-    fill::line(text, output::wrong(), &NONSENSE, line, word, place, 0)
-}
+pub const CHECK: u64 = 1;
 
-// How a command is called.
-pub fn usage(text: &mut [u8], command: Command, word: &[u8]) -> Output {
-    match command {
-        Command::Check => told(text, 0, word, 0),
-        Command::Tree => told(text, 1, word, 0),
-        Command::Find => told(text, 2, word, 0),
-        Command::Prop => told(text, 3, word, 0),
-        Command::Help => told(text, 4, word, 0),
-        Command::Unknown => told(text, 5, word, 0),
-    }
-}
+pub const TREE: u64 = 2;
 
-// A word that has no room.
-pub fn too_long(text: &mut [u8], place: u64) -> Output {
-    told(text, 6, b"", place)
+pub const FIND: u64 = 3;
+
+pub const PROP: u64 = 4;
+
+pub const ANY: u64 = 5;
+
+pub const UNKNOWN: u64 = 6;
+
+pub const LONG: u64 = 7;
+
+pub fn wrong(line: u64, place: u64) {
+    fill::wrong(&NONSENSE, line, fill::one(place))
 }
 
 // What the commands do, and how they show what they find.
-fn commands(text: &mut [u8]) -> Output {
-    output::bytes(
-        text,
-        output::good(),
-        b"dt reads flattened device trees (.dtb).
+const COMMANDS: [u8; 1126] = *b"dt reads flattened device trees (.dtb).
 
   dt check FILE        whether it is good; if not, why and where
   dt tree FILE         the whole tree as .dts text
@@ -67,38 +59,49 @@ and file names one that is not printable ASCII is, and a backslash is shown as t
 Reservations: the last row, of size 0, ends the list. It is counted, and it is shown, as a
 comment, only if it has an offset.
 
-",
-    )
-}
+";
 
-// The limits, and the exit status.
-fn limits(text: &mut [u8], out: Output) -> Output {
-    let files = b"Limits: # bytes a file, ^ reservation rows, ";
-    let out = fill::numbers(text, out, files, BLOB as u64, RESERVATIONS as u64);
-    let rows = b"# nodes, ^ properties,\n";
-    let out = fill::numbers(text, out, rows, NODES as u64, PROPERTIES as u64);
-    fill::numbers(
-        text,
-        out,
-        b"and # nodes one inside another.\n",
-        DEPTH as u64,
-        0,
-    )
-}
+const LIMITS: [u8; 100] = *b"Limits: ^ bytes a file, * reservation rows,
+ ^ nodes, * properties,
+and ^ nodes one inside another.
+";
 
-fn status(text: &mut [u8], out: Output) -> Output {
-    output::bytes(
-        text,
-        out,
-        b"
+const STATUS: [u8; 135] = *b"
 What goes wrong is one line on standard error. The exit status of ./dt is then 1, or 2 where
 the command line makes no sense; else 0.
-",
-    )
+";
+
+fn limits(text: &mut [u8; ROOM], out: Output) -> Output {
+    let lines = &LIMITS;
+    let out = fill::part(
+        text,
+        out,
+        lines,
+        0,
+        fill::two(BLOB as u64, RESERVATIONS as u64),
+    );
+    let out = fill::line(
+        text,
+        out,
+        lines,
+        1,
+        fill::two(NODES as u64, PROPERTIES as u64),
+    );
+    fill::line(text, out, lines, 2, fill::one(DEPTH as u64))
 }
 
-pub fn put(text: &mut [u8]) -> Output {
-    let out = commands(text);
-    let out = limits(text, out);
-    status(text, out)
+fn commands(text: &mut [u8; ROOM], out: Output) -> Output {
+    text::bytes(text, out, &COMMANDS)
+}
+
+fn status(text: &mut [u8; ROOM], out: Output) -> Output {
+    text::bytes(text, out, &STATUS)
+}
+
+pub fn put() {
+    let mut text = [0u8; ROOM];
+    let out = commands(&mut text, text::good());
+    let out = limits(&mut text, out);
+    let out = status(&mut text, out);
+    fill::done(&text, out)
 }

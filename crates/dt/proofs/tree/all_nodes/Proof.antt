@@ -1,13 +1,11 @@
 -- `dt::tree::all_nodes` is safe and ends: each turn takes a row. Assumes nothing.
 use borrow.Author.Needs.{needs}
 use Prim.Native.Nat.{_≤_, _-_}
-use mathlib.Core.Path.{_≡_}
-use lib.ListN.{length}
 use Rattle.dt.proofs.tree.all_nodes.Statement.{statement}
 use Rattle.dt.proofs.tree.all_nodes.Tie as tie
 
 abbrev Inv-loop : tie.InvT-loop
-Inv-loop text₀ b nodes props count out₀ many₀ row₀ text out many row = (row ≤ count) × (length text ≡ length text₀)
+Inv-loop text₀ b nodes props count out₀ many₀ row₀ text out many row = (row ≤ count) × (many ≤ 4294967296)
 
 abbrev μ-loop : tie.MeasureT-loop
 μ-loop text₀ b nodes props count out₀ many₀ row₀ text out many row = count - row
@@ -27,5 +25,4 @@ all-nodes-spec =
     (λ c. search needs)
     (λ c. search needs)
     (λ c κs. search needs)
-    (λ c. search needs)
     (λ c. search needs))

@@ -1,15 +1,14 @@
 -- `dt::tree::close` is safe and ends: each turn closes a node. Assumes nothing.
 use borrow.Author.Needs.{needs}
-use mathlib.Core.Path.{_≡_}
-use lib.ListN.{length}
+use Prim.Native.Nat.{_≤_}
 use Rattle.dt.proofs.tree.close.Statement.{statement}
 use Rattle.dt.proofs.tree.close.Tie as tie
 
 abbrev Inv-loop : tie.InvT-loop
-Inv-loop text₀ many until out₀ left₀ text out left = length text ≡ length text₀
+Inv-loop text₀ many until out₀ left₀ t8 text out left = left ≤ 4294967296
 
 abbrev μ-loop : tie.MeasureT-loop
-μ-loop text₀ many until out₀ left₀ text out left = left
+μ-loop text₀ many until out₀ left₀ t8 text out left = left
 
 pub close-spec : {M : Type 1} → statement M
 close-spec =
@@ -21,6 +20,7 @@ close-spec =
     (λ c. search needs)
     (λ c κs. search needs)
     (λ c. search needs)
+    (λ c κs. search needs)
     (λ c. search needs)
     (λ c. search needs)
     (λ c. search needs))

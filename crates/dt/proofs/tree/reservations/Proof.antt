@@ -1,13 +1,11 @@
 -- `dt::tree::reservations` is safe and ends: each turn takes a row. Assumes nothing.
 use borrow.Author.Needs.{needs}
 use Prim.Native.Nat.{_≤_, _-_}
-use mathlib.Core.Path.{_≡_}
-use lib.ListN.{length}
 use Rattle.dt.proofs.tree.reservations.Statement.{statement}
 use Rattle.dt.proofs.tree.reservations.Tie as tie
 
 abbrev Inv-loop : tie.InvT-loop
-Inv-loop text₀ reserved count out₀ row₀ text out row = (row ≤ count) × (length text ≡ length text₀)
+Inv-loop text₀ reserved count out₀ row₀ text out row = row ≤ count
 
 abbrev μ-loop : tie.MeasureT-loop
 μ-loop text₀ reserved count out₀ row₀ text out row = count - row
@@ -22,7 +20,6 @@ reservations-spec =
     (λ c κs. search needs)
     (λ c κs. search needs)
     (λ c κs. search needs)
-    (λ c. search needs)
     (λ c. search needs)
     (λ c. search needs)
     (λ c. search needs)
