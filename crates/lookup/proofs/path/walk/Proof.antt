@@ -55,30 +55,29 @@ judged c = c .links-are-good .ensures _ (nodes-length _ _) (own (c .before))
 abbrev start : tie.At-loop Inv-loop μ-loop → Begun
 start c = begun (c .before .before .before)
 
-abbrev top : tie.After-name-end Inv-loop μ-loop → tie.At-loop Inv-loop μ-loop
-top c = c .before .before
-
 abbrev name : tie.After-name-end Inv-loop μ-loop → List ℕ
-name c = part (now (top c .loop .rest)) 0 (c .name-end .result - 0)
+name c = part (now (c .before .before .loop .rest)) 0 (c .name-end .result - 0)
 
 abbrev sought : tie.After-name-end Inv-loop μ-loop → Outcome ℕ
-sought c = let st = start (top c) in childFrom (now (st .args .s)) (rowsOf st) (length (rowsOf st)) (top c .loop .first) (name c)
+sought c =
+    let top = c .before .before in
+    childFrom (now (start top .args .s)) (rowsOf (start top)) (length (rowsOf (start top))) (top .loop .first) (name c)
 
-no-child : (c : tie.After-name-end Inv-loop μ-loop) (r : Refusal) → sought c ≡ refused r → refused r ≡ goal (start (top c))
-no-child c r e = way-refused _ _ _ _ _ _ (top c .loop .inv .1) (c .before .loop-test .taken) _ _ (name-lent _ _ (c .name-end .ensures)) refl r e
+no-child : (c : tie.After-name-end Inv-loop μ-loop) (r : Refusal) → sought c ≡ refused r → refused r ≡ goal (start (c .before .before))
+no-child c r e = way-refused _ _ _ _ _ _ (c .before .before .loop .inv .1) (c .before .loop-test .taken) _ _ (name-lent _ _ (c .name-end .ensures)) refl r e
 
 -- a child was found
-abbrev named : tie.After-child Inv-loop μ-loop → tie.After-name-end Inv-loop μ-loop
-named c = c .before .before .before .before
+abbrev turn : tie.After-child Inv-loop μ-loop → tie.At-loop Inv-loop μ-loop
+turn c = c .before .before .before .before .before .before
 
-abbrev WayOn : tie.After-child Inv-loop μ-loop → List ℕ → Type 0
-WayOn c later = let st = start (top (named c)) in Way (now (st .args .s)) (rowsOf st) (goal st) (c .child .given .0 .0) (c .child .given .0 .1 .0) later
-
-a-child : (c : tie.After-child Inv-loop μ-loop) (later : List ℕ) → text.rest (now (top (named c) .loop .rest)) ≡ later → WayOn c later
+a-child : (c : tie.After-child Inv-loop μ-loop) (later : List ℕ) → text.rest (now (turn c .loop .rest)) ≡ later
+    → Way (now (start (turn c) .args .s)) (rowsOf (start (turn c))) (goal (start (turn c))) (c .child .given .0 .0) (c .child .given .0 .1 .0) later
 unfolding part
 a-child c later e =
-    let is = gives-at _ _ _ _ (c .before .before .child-named .ensures) (c .child .given .1) in
-    way-down _ _ _ _ _ _ (top (named c) .loop .inv .1) (named c .before .loop-test .taken) _ _ (name-lent _ _ (named c .name-end .ensures)) e _ _ (is .0) (is .1)
+    let call = c .before .before in
+    let named = call .before .before in
+    let is = gives-at _ _ _ _ (call .child-named .ensures) (c .child .given .1) in
+    way-down _ _ _ _ _ _ (named .before .before .loop .inv .1) (named .before .loop-test .taken) _ _ (name-lent _ _ (named .name-end .ensures)) e _ _ (is .0) (is .1)
 
 -- ---- the needs
 
@@ -97,9 +96,9 @@ loop-holds c =
 
 child-named-requires : tie.Need-child-named-requires Inv-loop μ-loop
 child-named-requires c κs =
-    let here = top (c .before) in
-    let way = here .loop .inv .1 in
-    record { low = here .loop .row; below = rw nodes-length at (way .there); room = start here .pre .1; good = way .good }
+    let top = c .before .before .before in
+    let way = top .loop .inv .1 in
+    record { low = top .loop .row; below = rw nodes-length at (way .there); room = start top .pre .1; good = way .good }
 
 returns-2 : tie.Need-returns-2 Inv-loop μ-loop
 unfolding foundOutcome part
@@ -117,18 +116,19 @@ returns-4 : tie.Need-returns-4 Inv-loop μ-loop
 unfolding foundOutcome
 returns-4 c =
     let told = c .before .before in
-    way-end _ _ _ _ _ _ (a-child told _ (rest-later _ _ (named told .name-end .ensures))) (rw length-drop (omega (arith, c .if2 .taken)))
+    way-end _ _ _ _ _ _ (a-child told _ (rest-later _ _ (told .before .before .before .before .name-end .ensures))) (rw length-drop (omega (arith, c .if2 .taken)))
 
 add-rest : tie.Need-add-rest Inv-loop μ-loop
 add-rest c =
-    let here = top (named (c .before .before)) in
-    omega (arith, c .if2 .left, here .loop .inv .0, start here .good .1 .1 .1 .1 .0 .0)
+    let top = turn (c .before .before) in
+    omega (arith, c .if2 .left, top .loop .inv .0, start top .good .1 .1 .1 .1 .0 .0)
 
 loop-again : tie.Need-loop-again Inv-loop μ-loop
 unfolding part
 loop-again c =
     let told = c .before .before .before in
-    (omega (arith, c .rest .given .2, top (named told) .loop .inv .0), a-child told _ (rest-lent _ _ (named told .name-end .ensures)))
+    let named = told .before .before .before .before in
+    (omega (arith, c .rest .given .2, named .before .before .loop .inv .0), a-child told _ (rest-lent _ _ (named .name-end .ensures)))
 
 returns-5 : tie.Need-returns-5 Inv-loop μ-loop
 unfolding foundOutcome
