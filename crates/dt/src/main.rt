@@ -1,4 +1,5 @@
 // dt: a device tree blob on the command line. Answers go to standard output; what goes wrong is one line on standard error.
+#![tactic(auto)]
 mod answer;
 mod args;
 mod file;

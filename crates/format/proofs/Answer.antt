@@ -1,9 +1,9 @@
 -- Laws of outcomes: what `try!` and `check` give, and that the numbers of an answer determine it. Assumes nothing.
-use Rattle.core.specs.Prelude.{◌≡◌, ℕ, Bool, true, false, eqb, ◌≢◌, List, [], ◌∷◌, length}
+use Rattle.std.specs.Prelude.{◌≡◌, ℕ, Bool, true, false, eqb, ◌≢◌, List, [], ◌∷◌}
 use mathlib.Core.Path.{refl, sym, ap, ◌∙◌}
 use native.Mathlib.Omega.{arith}
 use Rattle.format.specs.Choice.{if◌then◌else◌}
-use Rattle.format.specs.Answer.{Refusal, refusal_numbers, Outcome, ok, refused, ◌>>=◌, check, first, numbers, itself, nothing, Span, place, span_at, or_empty, or_zero}
+use Rattle.format.specs.Answer.{Refusal, refusal_numbers, Outcome, ok, refused, ◌>>=◌, check, first, numbers, itself, nothing, Span, place}
 use Rattle.format.specs.Answer.{invalid_magic_number, size_mismatch, unexpected_end_of_input, parse_error, utf8_error, version_not_supported, too_deep, reservation_room, node_room, property_room, nothing_found, missing0, too_short, not_usable}
 
 pub never : {A : Type 0} {r : Refusal} {a : A} → refused r ≡ ok a → ⊥

@@ -1,12 +1,12 @@
 -- Laws of bytes at positions: numbers and their big-endian bytes, what stands at a position, rounding up. Assumes nothing.
-use Rattle.core.specs.Prelude.{◌≡◌, ℕ, zero, suc, ◌+◌, ◌-◌, ◌*◌, ◌/◌, ◌%◌, ◌^◌, ◌<◌, ◌≤◌, List, [], ◌∷◌, ◌++◌, length, get_or, take, drop}
+use Rattle.std.specs.Prelude.{◌≡◌, ℕ, zero, suc, ◌+◌, ◌-◌, ◌*◌, ◌/◌, ◌%◌, ◌^◌, ◌<◌, ◌≤◌, List, [], ◌∷◌, ◌++◌, length, take, drop}
 use mathlib.Core.Path.{refl, sym, ap, ◌∙◌}
 use native.Mathlib.Omega.{arith}
 use native.Mathlib.Decide.{ℕ_discrete}
-use native.Mathlib.Nat.{le_trans, mul_assoc, one-mul, mul-le-mul_right, pow-succ', add-zero, mod-lt, mod_self, mod-eq_of_lt, mod-zero, mod-mod, sub-zero, add-mod, add-mod_right, mod-add-mod, add-mod-mod}
+use native.Mathlib.Nat.{le_trans, mul_assoc, one-mul, mul-le-mul_right, pow-succ', add-zero, mod-lt, mod_self, mod-eq_of_lt, sub-zero, mod-add-mod}
 use mathlib.Core.List.{append_assoc, append-nil}
 use lib.ListN.{length-append, length-take, length-drop, take-append-drop}
-use lib.Seq.{take-add, take-append_seam, get_or-drop, length-take-le, drop-drop, take-length, drop-append-le}
+use lib.Seq.{take-append_seam, length-take-le, drop-append-le}
 use Rattle.format.specs.Bytes.{part, Has, big_endian, number, value_at, align, AreBytes, Below}
 
 -- ---- numbers and their bytes, at every width

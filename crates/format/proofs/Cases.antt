@@ -1,16 +1,16 @@
 -- The starred cases, one claim, by computation; and with them that acceptance is not empty. Assumes nothing.
-use Rattle.core.specs.Prelude.{◌≡◌, ℕ, zero, suc, ◌+◌, ◌<◌, ◌≤◌, Bool, true, false, ◌&&◌, eqb, ltb, ◌≢◌, List, [], ◌∷◌, ◌++◌, map, length, get_or}
-use mathlib.Core.Path.{refl, sym, ap, ◌∙◌}
+use Rattle.std.specs.Prelude.{◌≡◌, ℕ, zero, suc, ◌≤◌, Bool, true, ◌&&◌, ltb, ◌≢◌, List, [], ◌∷◌, map, length, get_or}
+use mathlib.Core.Path.{refl, ap}
 use native.Mathlib.Omega.{arith}
 use borrow.Author.Tests.{ltb-true, ne_eqb}
 use Rattle.format.specs.Choice.{if◌then◌else◌}
-use Rattle.format.specs.Answer.{refusal_numbers, Outcome, ok, refused, invalid_magic_number, numbers, first, itself, place, ◌>>=◌, check}
+use Rattle.format.specs.Answer.{refusal_numbers, Outcome, ok, refused, invalid_magic_number, numbers, first, itself, ◌>>=◌, check}
 use Rattle.format.specs.Bytes.{part, big_endian, number, value_at, word_at, align, AreBytes}
 use Rattle.format.specs.Format.{magic, version, magic_at, BEGIN_NODE, END_NODE, PROP, reservation_width, node_width, property_width, NONE}
 use Rattle.format.specs.Utf8.{leading_ones, within, tail, second, further_by, further, goes_on, from_utf8}
-use Rattle.format.specs.Tree.{Node, node, Nodes, none, ◌&◌, Reservation, Tree, node_count, property_count}
+use Rattle.format.specs.Tree.{Tree, node_count, property_count}
 use Rattle.format.specs.Rules.{Rules, size_zero, ours}
-use Rattle.format.specs.Encodes.{after_property, after_properties, after_name, after_node, Encodes}
+use Rattle.format.specs.Encodes.{after_property, after_properties, after_name, after_node}
 use Rattle.format.specs.Read.{read_be, until_zero, read_bstring0, subslice, property, properties, nodes, node_load, reservation, reservations, header, body, load_within, load}
 use Rattle.format.specs.Rows.{blank, at, property_at, first_row, node_rows, property_row, property_rows, node_properties, rows, reservation_numbers, node_numbers, property_numbers, nodes_in, properties_in}
 use Rattle.format.specs.Load.{tree_numbers, capacity, room, tables_after, Accepted}

@@ -1,16 +1,16 @@
 -- What encodes a tree is read as that tree: `Encodes rules b t` and depth enough give `load_within rules d b ≡ ok t`. By recursion on the tree:
 -- each reader finds what the layout puts there. So a blob encodes at most one tree. Assumes nothing.
-use Rattle.core.specs.Prelude.{◌≡◌, ℕ, zero, suc, ◌+◌, ◌<◌, ◌≤◌, max, Bool, true, false, eqb, ◌≢◌, List, [], ◌∷◌, ◌++◌, length, take}
-use mathlib.Core.Path.{refl, sym, ap, ◌∙◌}
+use Rattle.std.specs.Prelude.{◌≡◌, ℕ, zero, suc, ◌+◌, ◌<◌, ◌≤◌, Bool, ◌≢◌, List, [], ◌∷◌, length, take}
+use mathlib.Core.Path.{refl, sym, ◌∙◌}
 use native.Mathlib.Omega.{arith}
 use borrow.Author.Tests.{eq-eqb, ne_eqb}
-use Rattle.format.specs.Bytes.{Has, big_endian, word, long, align}
+use Rattle.format.specs.Bytes.{Has, big_endian, word}
 use Rattle.format.specs.Format.{magic, version, magic_at, total_size_at, structure_at, strings_at, reservations_at, version_at, boot_cpu_at, BEGIN_NODE, END_NODE, PROP}
-use Rattle.format.specs.Answer.{Outcome, ok, refused, ◌>>=◌}
+use Rattle.format.specs.Answer.{ok}
 use Rattle.format.specs.Tree.{Property, Node, node, Nodes, none, ◌&◌, Reservation, Tree, depth, depths}
 use Rattle.format.specs.Rules.{Rules}
 use Rattle.format.specs.Encodes.{GoodName, GoodProperties, GoodNode, GoodNodes, LastEnds, Block, PropertyAt, after_property, after_properties, after_name, after_node, after_nodes, PropertiesAt, NodeAt, NodesAt, ReservationAt, ReservationsAt, Layout, Encodes}
-use Rattle.format.specs.Read.{property, properties, nodes, node_load, reservation, reservations, Header, header, body, load_within}
+use Rattle.format.specs.Read.{property, properties, nodes, node_load, reservation, reservations, header, body, load_within}
 use Rattle.format.proofs.Tools.{if_yes, if_no}
 use Rattle.format.proofs.Answer.{ok_same, then_ok, check-ok}
 use Rattle.format.proofs.Bytes.{align-up}

@@ -1,14 +1,14 @@
 -- What a path finds is a place of the tree: the row that it gives is the row of the node that it gives. So a property looked up at that
 -- row is the property of that node. By recursion on the tree. Assumes nothing.
-use Rattle.core.specs.Prelude.{◌≡◌, ℕ, suc, ◌+◌, ◌<◌, ◌≤◌, Bool, true, false, eqb, ltb, List, [], ◌∷◌, length}
-use mathlib.Core.Path.{refl, sym, ap, ◌∙◌, subst}
+use Rattle.std.specs.Prelude.{◌≡◌, ℕ, ◌+◌, ◌<◌, ◌≤◌, Bool, true, false, List, [], ◌∷◌}
+use mathlib.Core.Path.{refl, sym, ◌∙◌, subst}
 use native.Mathlib.Omega.{arith}
-use borrow.Author.Tests.{eq-eqb, ne_eqb, lt-ltb, le-ltb, eqb-true, eqb-false, ltb-true, ltb-false}
+use borrow.Author.Tests.{eq-eqb, ne_eqb, lt-ltb, le-ltb}
 use Rattle.format.specs.Choice.{if◌then◌else◌}
-use Rattle.format.specs.Answer.{Outcome, ok, refused, ◌>>=◌}
+use Rattle.format.specs.Answer.{Outcome, ok, ◌>>=◌}
 use Rattle.format.specs.Tree.{Property, Node, node, Nodes, none, ◌&◌, node_count, node_counts, Tree}
 use Rattle.format.specs.Encodes.{after_properties, after_name, after_node}
-use Rattle.format.specs.Find.{head, rest, same, Place, name_of, find_below, find_among, find_from, find, root_place, after_slash, place_below, place_among, place_of}
+use Rattle.format.specs.Find.{head, rest, same, Place, name_of, find_below, find_among, find_from, find, root_place, place_below, place_among, place_of}
 use Rattle.format.proofs.Tools.{if_yes, if_no, if-went}
 use Rattle.format.proofs.Answer.{never, ok_same, step}
 

@@ -1,17 +1,16 @@
 -- Demand 3: over any first contents and any list of loads, accepted or refused. An accepted load writes its tree, a refused one nothing.
 -- Assumes nothing: that a blob's elements are bytes comes with each call.
-use Rattle.core.specs.Prelude.{◌≡◌, ℕ, ◌<◌, eqb, List, [], ◌∷◌}
+use Rattle.std.specs.Prelude.{◌≡◌, ℕ, eqb, List, [], ◌∷◌}
 use mathlib.Core.Path.{refl, sym, ap, ◌∙◌, subst}
 use mathlib.Core.Option.{Option, none, some}
 use borrow.Author.Tests.{eq-eqb, ne_eqb}
 use Rattle.format.specs.Choice.{if◌then◌else◌}
-use Rattle.format.specs.Answer.{Refusal, refusal_numbers, Outcome, ok, refused, numbers, first}
+use Rattle.format.specs.Answer.{refusal_numbers, Outcome, ok, refused, numbers, first}
 use Rattle.format.specs.Bytes.{AreBytes}
-use Rattle.format.specs.Tree.{Tree, node_count, property_count}
+use Rattle.format.specs.Tree.{Tree}
 use Rattle.format.specs.Rules.{ours}
-use Rattle.format.specs.Rows.{nodes_in}
 use Rattle.format.specs.Load.{Tables, tree_numbers, load, tables_after, Loads, Accepted, Call, Calls, last_accepted}
-use Rattle.format.specs.Shape.{IsTree, NodeTold, Holds}
+use Rattle.format.specs.Shape.{Holds}
 use Rattle.format.specs.Kept.{Kept, KeptIfAny}
 use Rattle.format.proofs.Tools.{if_yes, if_no}
 use Rattle.format.proofs.Answer.{refusal-not-0}

@@ -1,15 +1,14 @@
 -- A load accepts a blob exactly when it encodes some tree and depth and room suffice; a refusal leaves the tables; the answer and the
 -- tables are determined. Assumes, for acceptance, that the blob's elements are bytes.
-use Rattle.core.specs.Prelude.{◌≡◌, ℕ, ◌*◌, ◌/◌, ◌<◌, ◌≤◌, Bool, true, false, leb, ◌⊎◌, ◌↔◌, List, length}
+use Rattle.std.specs.Prelude.{◌≡◌, ℕ, ◌*◌, ◌/◌, ◌≤◌, Bool, true, false, ◌⊎◌, ◌↔◌, List, length}
 use mathlib.Core.Path.{refl, sym, ap, ◌∙◌, subst}
 use mathlib.Core.Logic.{inl, inr, ⊎_elim}
 use native.Mathlib.Omega.{arith}
 use native.Mathlib.Nat.{le_trans, mul_comm, mul-le-mul_left, div-mul-le_self}
 use borrow.Author.Tests.{leb-true, leb-false, le-leb, lt-leb}
 use Rattle.format.specs.Bytes.{AreBytes}
-use Rattle.format.specs.Format.{reservation_width, node_width, property_width}
-use Rattle.format.specs.Answer.{Refusal, reservation_room, node_room, property_room, refusal_numbers, first, code, Outcome, ok, refused, ◌>>=◌, check, numbers}
-use Rattle.format.specs.Tree.{Tree, node_count, property_count}
+use Rattle.format.specs.Answer.{Refusal, refusal_numbers, first, code, Outcome, ok, refused, ◌>>=◌, check, numbers}
+use Rattle.format.specs.Tree.{Tree}
 use Rattle.format.specs.Rules.{ours}
 use Rattle.format.specs.Load.{Tables, tree_numbers, capacity, room, load, tables_after, Loads, Measures, Accepted, NoRoom, reservations, nodes, properties}
 use Rattle.format.specs.Read as read

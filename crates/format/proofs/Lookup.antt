@@ -1,13 +1,13 @@
 -- In the rows of an encoded tree a path finds what the tree has and a name reads what the tree's node has, so neither gives 15.
 -- By recursion on the tree, over the run of rows that each part of it takes. Assumes that the blob's elements are bytes.
-use Rattle.core.specs.Prelude.{◌≡◌, ℕ, zero, suc, ◌+◌, ◌<◌, ◌≤◌, Bool, true, false, ◌&&◌, ◌||◌, eqb, ltb, leb, ◌≢◌, List, [], ◌∷◌, ◌++◌, length, take}
-use mathlib.Core.Path.{refl, sym, ap, ◌∙◌, subst}
+use Rattle.std.specs.Prelude.{◌≡◌, ℕ, zero, suc, ◌+◌, ◌<◌, ◌≤◌, Bool, true, false, ◌&&◌, ◌≢◌, List, [], ◌∷◌, length}
+use mathlib.Core.Path.{refl, sym, ap, ◌∙◌}
 use native.Mathlib.Omega.{arith}
 use lib.ListN.{length-append}
 use borrow.Author.Tests.{le-leb, lt-ltb, le-ltb, eq-eqb, ne_eqb}
 use Rattle.format.specs.Choice.{if◌then◌else◌}
-use Rattle.format.specs.Answer.{Outcome, ok, refused, ◌>>=◌, Span, nothing_found, not_usable}
-use Rattle.format.specs.Bytes.{part, Has, AreBytes, word_at}
+use Rattle.format.specs.Answer.{Outcome, ok, refused, ◌>>=◌, nothing_found, not_usable}
+use Rattle.format.specs.Bytes.{AreBytes, word_at}
 use Rattle.format.specs.Format.{NONE, structure_at, strings_at}
 use Rattle.format.specs.Tree.{Property, Node, node, Nodes, none, ◌&◌, node_count, node_counts, property_count, Tree}
 use Rattle.format.specs.Rules.{Rules}

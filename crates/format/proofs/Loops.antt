@@ -1,15 +1,14 @@
 -- The loops without their fuel: with the blob's length for fuel, each loop is its own next turn, since every turn passes a byte.
 -- What code proofs cite. Assumes nothing.
-use Rattle.core.specs.Prelude.{◌≡◌, ℕ, zero, suc, ◌+◌, ◌<◌, ◌≤◌, Bool, eqb, List, [], ◌∷◌, length}
-use mathlib.Core.Path.{refl, sym, ap, ◌∙◌}
+use Rattle.std.specs.Prelude.{◌≡◌, ℕ, zero, suc, ◌+◌, ◌<◌, ◌≤◌, Bool, eqb, List, [], ◌∷◌, length}
+use mathlib.Core.Path.{refl, sym, ap}
 use native.Mathlib.Omega.{arith}
 use Rattle.format.specs.Choice.{if◌then◌else◌}
-use Rattle.format.specs.Bytes.{align}
 use Rattle.format.specs.Format.{BEGIN_NODE, PROP}
 use Rattle.format.specs.Answer.{Outcome, ok, refused, unexpected_end_of_input, ◌>>=◌}
 use Rattle.format.specs.Tree.{Property, Node, Nodes, none, ◌&◌, Reservation}
 use Rattle.format.specs.Encodes.{Block}
-use Rattle.format.specs.Read.{read_be_u32, read_be_u64, Read, property, properties, nodes, node_load, reservation, reservations}
+use Rattle.format.specs.Read.{read_be_u32, Read, property, properties, nodes, node_load, reservation, reservations}
 use Rattle.format.proofs.Tools.{if-went, if-same}
 use Rattle.format.proofs.Answer.{never, ok_same, step, then-refused, then_same}
 use Rattle.format.proofs.Bytes.{align-up}

@@ -1,19 +1,17 @@
 -- The limit of depth shows through refusal 7 alone, and at a depth that no blob can pass nothing is too deep: so whatever is not
 -- refused with 7 to 10 is the Rust's answer. Assumes nothing.
-use Rattle.core.specs.Prelude.{◌≡◌, ℕ, zero, suc, ◌+◌, ◌<◌, ◌≤◌, Bool, true, false, eqb, ◌≢◌, List, [], ◌∷◌, length, take, drop}
-use mathlib.Core.Path.{refl, sym, ap, ◌∙◌}
+use Rattle.std.specs.Prelude.{◌≡◌, ℕ, zero, suc, ◌+◌, ◌<◌, ◌≤◌, Bool, true, false, ◌≢◌, List, [], ◌∷◌, length, drop}
+use mathlib.Core.Path.{refl, sym, ◌∙◌}
 use native.Mathlib.Omega.{arith}
 use Rattle.format.specs.Choice.{if◌then◌else◌}
-use Rattle.format.specs.Bytes.{align}
-use Rattle.format.specs.Answer.{Refusal, refusal_numbers, first, code, Limit, unexpected_end_of_input, too_deep, Outcome, ok, refused, ◌>>=◌, check}
-use Rattle.format.specs.Tree.{Property, Node, Tree, Reservation}
+use Rattle.format.specs.Answer.{Refusal, refusal_numbers, first, code, Limit, unexpected_end_of_input, Outcome, ok, refused, ◌>>=◌, check}
+use Rattle.format.specs.Tree.{Node, Tree, Reservation}
 use Rattle.format.specs.Encodes.{Block}
 use Rattle.format.specs.Rules.{Rules, ours, original}
 use Rattle.format.specs.Read.{read_be, until_zero, read_bstring0, subslice, Read, property, properties, nodes, node_load, reservation, reservations, header, body, load_within, load}
 use Rattle.format.specs.Load.{Tables, room}
 use Rattle.format.specs.Load as into
 use Rattle.format.proofs.Tools.{split}
-use Rattle.format.proofs.Answer.{ok-then}
 use Rattle.format.proofs.Bytes.{align-up}
 use Rattle.format.proofs.Read.{read-inside}
 use Rattle.format.proofs.Loops.{node-moves, properties-move}

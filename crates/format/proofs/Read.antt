@@ -1,14 +1,13 @@
 -- Each reader gives its answer exactly where the bytes stand. Assumes nothing but, where it is named, that the blob's elements are bytes.
-use Rattle.core.specs.Prelude.{◌≡◌, ℕ, zero, suc, ◌+◌, ◌-◌, ◌*◌, ◌^◌, ◌<◌, ◌≤◌, Bool, true, false, not, eqb, ltb, leb, List, [], ◌∷◌, ◌++◌, length, get_or, take, drop}
+use Rattle.std.specs.Prelude.{◌≡◌, ℕ, zero, suc, ◌+◌, ◌-◌, ◌<◌, ◌≤◌, List, [], ◌∷◌, ◌++◌, length, drop}
 use mathlib.Core.Path.{refl, sym, ap, ◌∙◌, subst}
 use native.Mathlib.Omega.{arith}
-use native.Mathlib.Nat.{add-zero}
 use mathlib.Core.List.{append_assoc}
 use lib.ListN.{length-append, length-drop}
-use lib.Seq.{take-append_seam, get_or-drop, length-take-le}
-use borrow.Author.Tests.{leb-true, ltb-true, le-leb, lt-leb, lt-ltb, le-ltb, eq-eqb, ne_eqb}
+use lib.Seq.{length-take-le}
+use borrow.Author.Tests.{leb-true, ltb-true, le-leb, lt-leb, lt-ltb}
 use Rattle.format.specs.Bytes.{part, Has, big_endian, word, long, value_at, AreBytes, NoZero}
-use Rattle.format.specs.Answer.{Refusal, unexpected_end_of_input, Outcome, ok, refused, ◌>>=◌, check, span_at, Span}
+use Rattle.format.specs.Answer.{unexpected_end_of_input, ok, refused}
 use Rattle.format.specs.Read.{read_be, read_be_u32, read_be_u64, until_zero, read_bstring0, subslice}
 use Rattle.format.proofs.Answer.{never, ok_same, step, then_ok, then-refused, check-ok, check-no, checked}
 use Rattle.format.proofs.Bytes.{length-bytes, value-is, value-stands, has_rest, has-front}

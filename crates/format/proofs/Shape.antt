@@ -1,6 +1,6 @@
 -- The rows of every tree have the shape of a tree: by recursion on the tree, over the run of rows that each part of it takes.
 -- Assumes nothing.
-use Rattle.core.specs.Prelude.{◌≡◌, ℕ, zero, suc, ◌+◌, ◌<◌, ◌≤◌, eqb, ◌≢◌, List, [], ◌∷◌, ◌++◌, length}
+use Rattle.std.specs.Prelude.{◌≡◌, ℕ, zero, suc, ◌+◌, ◌<◌, ◌≤◌, ◌≢◌, List, [], ◌∷◌, ◌++◌, length}
 use mathlib.Core.Path.{refl, sym, ap, ◌∙◌}
 use native.Mathlib.Omega.{arith}
 use native.Mathlib.Nat.{add-zero, zero-add, add_assoc}
@@ -11,7 +11,7 @@ use Rattle.format.specs.Format.{NONE}
 use Rattle.format.specs.Tree.{Property, Node, node, Nodes, none, ◌&◌, node_count, node_counts, property_count, property_counts}
 use Rattle.format.specs.Encodes.{after_properties, after_name}
 use Rattle.format.specs.Rows.{NodeRow, at, first_row, node_rows, nodes_rows}
-use Rattle.format.specs.Shape.{siblings, children_of, walk, count, range, OneParent, Owns, OneOwner, PropertiesFollow, IsTree}
+use Rattle.format.specs.Shape.{siblings, children_of, walk, count, range, Owns, OneOwner, PropertiesFollow, IsTree}
 use Rattle.format.proofs.Tools.{split}
 use Rattle.format.proofs.Runs.{Run, whole, run-tail}
 use Rattle.format.proofs.Rows.{length-node, length-nodes, node-pos, row-head, first_run, later-run}

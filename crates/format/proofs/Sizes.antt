@@ -1,20 +1,19 @@
 -- What is encoded is small: the blob is below 2 ^ 32 bytes long, each node and each property takes 9 of them at least (a node at an
 -- unaligned structure offset is 9 to 12 long), and so every number of a row fits the table that it is written to.
 -- Assumes that the blob's elements are bytes.
-use Rattle.core.specs.Prelude.{◌≡◌, ℕ, zero, suc, ◌+◌, ◌*◌, ◌^◌, ◌<◌, ◌≤◌, List, [], ◌∷◌, ◌++◌, length, take}
-use mathlib.Core.Path.{refl, sym, ap, ◌∙◌}
+use Rattle.std.specs.Prelude.{◌≡◌, ℕ, ◌+◌, ◌*◌, ◌^◌, ◌<◌, ◌≤◌, List, [], ◌∷◌, ◌++◌, length}
 use native.Mathlib.Omega.{arith}
 use lib.ListN.{length-append}
-use Rattle.format.specs.Bytes.{AreBytes, Has, big_endian, word, long, value_at, word_at, align, Below}
-use Rattle.format.specs.Format.{NONE, structure_at, strings_at, END_NODE}
+use Rattle.format.specs.Bytes.{AreBytes, Has, big_endian, word, word_at, Below}
+use Rattle.format.specs.Format.{NONE, structure_at, strings_at}
 use Rattle.format.specs.Tree.{Property, Node, node, Nodes, none, ◌&◌, Reservation, Tree, node_count, node_counts, property_count, property_counts}
 use Rattle.format.specs.Rules.{Rules}
-use Rattle.format.specs.Encodes.{Block, PropertyAt, PropertiesAt, after_property, after_properties, after_name, after_node, after_nodes, NodeAt, NodesAt, ReservationAt, ReservationsAt, Encodes}
+use Rattle.format.specs.Encodes.{Block, PropertiesAt, after_property, after_properties, after_name, after_node, after_nodes, NodeAt, NodesAt, ReservationsAt, Encodes}
 use Rattle.format.specs.Rows.{NodeRow, PropertyRow, first_row, node_rows, nodes_rows, property_row, property_rows, node_properties, nodes_properties, rows, reservation_numbers, node_numbers, property_numbers}
 use Rattle.format.specs.Shape.{IsTree}
 use Rattle.format.proofs.Bytes.{value-is, value-small, has-front-of, below-append, align-up}
 use Rattle.format.proofs.Complete.{reservation-inside}
-use Rattle.format.proofs.Rows.{numbers-append, property-numbers-append, node-pos, length-node, node-properties}
+use Rattle.format.proofs.Rows.{numbers-append, property-numbers-append}
 use Rattle.format.proofs.Shape.{shape}
 
 pub value-fits : (b : List ℕ) (p k n : ℕ) → AreBytes b → 0 < k → p + k ≤ length b → Has b p (big_endian k n) → n < 256 ^ k

@@ -1,13 +1,13 @@
 -- What is read is encoded: `load_within rules d b ≡ ok t` gives `Encodes rules b t`, and the tree is not too deep. By recursion on the reader:
 -- each step that went well says which bytes stand where. Assumes that the blob's elements are bytes.
-use Rattle.core.specs.Prelude.{◌≡◌, ℕ, zero, suc, ◌+◌, ◌≤◌, Bool, true, false, eqb, List, [], ◌∷◌, ◌++◌, length, take}
-use mathlib.Core.Path.{refl, sym, ap, ◌∙◌, subst}
+use Rattle.std.specs.Prelude.{◌≡◌, ℕ, zero, suc, ◌+◌, ◌≤◌, Bool, false, List, [], ◌∷◌, ◌++◌, length, take}
+use mathlib.Core.Path.{refl, ap, ◌∙◌, subst}
 use native.Mathlib.Omega.{arith}
 use borrow.Author.Tests.{eqb-true}
-use Rattle.format.specs.Bytes.{Has, word, align, AreBytes}
+use Rattle.format.specs.Bytes.{Has, word, AreBytes}
 use Rattle.format.specs.Format.{magic, version, magic_at, total_size_at, structure_at, strings_at, reservations_at, version_at, boot_cpu_at, BEGIN_NODE, END_NODE, PROP}
-use Rattle.format.specs.Answer.{Outcome, ok, refused}
-use Rattle.format.specs.Tree.{Property, Node, node, Nodes, none, ◌&◌, Reservation, Tree, depth, depths}
+use Rattle.format.specs.Answer.{Outcome, ok}
+use Rattle.format.specs.Tree.{Property, Node, node, Nodes, ◌&◌, Reservation, Tree, depth, depths}
 use Rattle.format.specs.Rules.{Rules}
 use Rattle.format.specs.Encodes.{GoodName, GoodProperties, GoodNode, GoodNodes, LastEnds, Block, PropertyAt, after_property, after_properties, after_name, after_node, after_nodes, PropertiesAt, NodeAt, NodesAt, ReservationAt, ReservationsAt, Encodes}
 use Rattle.format.specs.Read.{Read, property, properties, nodes, node_load, reservation, reservations, Header, header, body, load_within}

@@ -1,18 +1,17 @@
 -- Lookups over lent tables: the property readers stand on prop_raw whatever the rows hold, and on the tables that an accepted load
 -- left every lookup answers what the tree's own does, so none gives 15. Assumes, for the second, that the blob's elements are bytes.
-use Rattle.core.specs.Prelude.{◌≡◌, ℕ, zero, suc, ◌+◌, ◌-◌, ◌*◌, ◌<◌, ◌≤◌, Bool, true, false, ◌&&◌, ltb, leb, List, [], ◌∷◌, length, take, drop}
+use Rattle.std.specs.Prelude.{◌≡◌, ℕ, ◌-◌, ◌<◌, ◌≤◌, true, List, length, take, drop}
 use mathlib.Core.Path.{refl, sym, ap, ◌∙◌}
 use native.Mathlib.Omega.{arith}
 use lib.ListN.{length-take}
-use lib.Seq.{sets, length-sets, take-take}
+use lib.Seq.{length-sets, take-take}
 use borrow.Author.Tests.{le-leb, lt-ltb, eq-eqb}
-use Rattle.format.specs.Answer.{Outcome, ok, refused, ◌>>=◌, Span, check, missing0, utf8_error}
+use Rattle.format.specs.Answer.{Outcome, ok, ◌>>=◌, Span}
 use Rattle.format.specs.Bytes.{AreBytes, part, word_at}
 use Rattle.format.specs.Format.{NONE, reservation_width, node_width, property_width, structure_at, strings_at}
 use Rattle.format.specs.Tree.{Node, node, Tree, node_count, property_count}
-use Rattle.format.specs.Utf8.{from_utf8}
 use Rattle.format.specs.Rules.{ours}
-use Rattle.format.specs.Rows.{NodeRow, PropertyRow, rows, reservation_numbers, node_numbers, property_numbers, reservations_in, nodes_in, properties_in}
+use Rattle.format.specs.Rows.{rows, reservations_in, nodes_in, properties_in}
 use Rattle.format.specs.Load.{Tables, capacity, tables_after, Accepted}
 use Rattle.format.specs.Find.{Place, place_below, place_of, root_place, after_slash, as_number, as_string, ends0}
 use Rattle.format.specs.Find as tree

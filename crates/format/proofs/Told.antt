@@ -1,13 +1,13 @@
 -- The rows of an encoded tree tell that tree, and rows tell at most one. By recursion on the tree. Assumes, for the first, that the
 -- blob's elements are bytes.
-use Rattle.core.specs.Prelude.{◌≡◌, ℕ, suc, ◌+◌, ◌<◌, ◌≤◌, ◌≢◌, List, [], ◌∷◌, length}
-use mathlib.Core.Path.{refl, sym, ap, ap₂, ◌∙◌}
+use Rattle.std.specs.Prelude.{◌≡◌, ℕ, ◌+◌, ◌<◌, ◌≤◌, List, [], ◌∷◌, length}
+use mathlib.Core.Path.{refl, sym, ap₂, ◌∙◌}
 use native.Mathlib.Omega.{arith}
 use Rattle.format.specs.Bytes.{AreBytes, word_at}
 use Rattle.format.specs.Format.{NONE, structure_at, strings_at}
 use Rattle.format.specs.Tree.{Property, Node, node, Nodes, none, ◌&◌, node_count, property_count, Tree}
 use Rattle.format.specs.Rules.{Rules}
-use Rattle.format.specs.Encodes.{Block, PropertiesAt, NodeAt, NodesAt, Encodes, after_property, after_name, after_properties, after_node}
+use Rattle.format.specs.Encodes.{Block, PropertiesAt, NodeAt, NodesAt, Encodes, after_property, after_name}
 use Rattle.format.specs.Rows.{NodeRow, PropertyRow, at, first_row, node_rows, nodes_rows, property_rows, node_properties, nodes_properties, rows}
 use Rattle.format.specs.Shape.{PropertyTold, PropertiesTold, NodeTold, NodesTold}
 use Rattle.format.proofs.Runs.{Run, whole, run-tail, run-left, run-right}

@@ -1,6 +1,6 @@
 -- The loader by positions alone: what each reader gives as the next position, a turn at a time. For code that checks and counts.
 -- Assumes nothing.
-use Rattle.core.specs.Prelude.{◌≡◌, ℕ, zero, suc, ◌+◌, ◌-◌, ◌<◌, eqb, ◌≢◌, List, [], ◌∷◌, ◌++◌, length, take, drop}
+use Rattle.std.specs.Prelude.{◌≡◌, ℕ, zero, suc, ◌+◌, ◌-◌, ◌<◌, eqb, ◌≢◌, List, ◌∷◌, length, take, drop}
 use mathlib.Core.Path.{refl, sym, ap, ◌∙◌}
 use native.Mathlib.Omega.{arith}
 use mathlib.Core.List.{append_assoc}
@@ -12,7 +12,7 @@ use Rattle.format.specs.Bytes.{align, part}
 use Rattle.format.specs.Format.{BEGIN_NODE, END_NODE, PROP}
 use Rattle.format.specs.Answer.{Refusal, parse_error, utf8_error, too_deep, Outcome, ok, refused, ◌>>=◌, check}
 use Rattle.format.specs.Utf8.{from_utf8}
-use Rattle.format.specs.Tree.{Property, Node, node, Nodes, none, ◌&◌}
+use Rattle.format.specs.Tree.{◌&◌}
 use Rattle.format.specs.Encodes.{Block}
 use Rattle.format.specs.Read.{read_be_u32, read_bstring0, Read, property, properties, nodes, node_load}
 use Rattle.format.proofs.Tools.{if_yes, if_no, if-same}

@@ -1,5 +1,5 @@
 -- The tree's own lookups never give 15, so neither do those that say the same. Assumes nothing.
-use Rattle.core.specs.Prelude.{◌≡◌, ℕ, Bool, true, false, ◌≢◌, List}
+use Rattle.std.specs.Prelude.{◌≡◌, ℕ, Bool, true, false, ◌≢◌, List}
 use mathlib.Core.Path.{refl, sym, ap}
 use native.Mathlib.Omega.{arith}
 use Rattle.format.specs.Answer.{Refusal, refusal_numbers, Outcome, ok, refused, ◌>>=◌, check, first, numbers, Span}

@@ -1,11 +1,11 @@
 -- The check by leading one bits accepts exactly RFC 3629's grammar, and the leading one bits of a byte are the leading zeros of its
 -- complement. Assumes nothing.
-use Rattle.core.specs.Prelude.{◌≡◌, ℕ, zero, suc, ◌-◌, ◌<◌, ◌≤◌, min, Bool, true, false, ◌&&◌, eqb, ltb, leb, ◌≢◌, ◌↔◌, List, [], ◌∷◌}
-use mathlib.Core.Path.{refl, sym, ap, ◌∙◌, subst}
+use Rattle.std.specs.Prelude.{◌≡◌, ℕ, ◌-◌, ◌<◌, min, Bool, true, false, eqb, ◌≢◌, ◌↔◌, List, [], ◌∷◌}
+use mathlib.Core.Path.{refl, subst}
 use native.Mathlib.Omega.{arith}
 use mathlib.Core.Option.{Option, none, some}
 use lib.Count.{count_leading_zeros}
-use borrow.Author.Tests.{leb-true, leb-false, ltb-true, ltb-false, eqb-true, eqb-false, le-leb, lt-leb, lt-ltb, le-ltb, eq-eqb, ne_eqb}
+use borrow.Author.Tests.{leb-true, eqb-true, le-leb, lt-ltb, le-ltb, ne_eqb}
 use Rattle.format.specs.Choice.{if◌then◌else◌}
 use Rattle.format.proofs.Tools.{split, both, never_both, all_below, each_below}
 use Rattle.format.specs.Utf8.{In, Tail, Utf8, end, utf8_1, utf8_2, utf8_3_e0, utf8_3_e1, utf8_3_ed, utf8_3_ee, utf8_4_f0, utf8_4_f1, utf8_4_f4}

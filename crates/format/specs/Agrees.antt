@@ -1,6 +1,6 @@
 -- When lookups in tables say what the tree's own lookups say: the same row, the same bytes, the same number, the same refusal.
 -- The tree's own never give 15, so neither do those.
-use Rattle.core.specs.Prelude.{◌≡◌, ℕ, List}
+use Rattle.std.specs.Prelude.{◌≡◌, ℕ, List}
 use Rattle.format.specs.Answer.{Outcome, ok, ◌>>=◌, Span}
 use Rattle.format.specs.Tree.{Tree, node_count, property_count}
 use Rattle.format.specs.Load.{Tables}

@@ -1,5 +1,5 @@
 -- What a call answers: a value or a refusal, and the numbers that document 01 knows them by ("When the reader says no").
-use Rattle.core.specs.Prelude.{ℕ, ◌≤◌, Bool, true, false, List, [], ◌∷◌, length}
+use Rattle.std.specs.Prelude.{ℕ, ◌≤◌, Bool, true, false, List, [], ◌∷◌, length}
 
 infixl 10 ◌>>=◌
 -- 1 to 15, with the position or the rows needed (16, a bad line, is the programs' own)

@@ -1,5 +1,5 @@
 -- Bytes at positions. A blob is the list of its bytes. Document 01: "All integers in a blob are big-endian."
-use Rattle.core.specs.Prelude.{◌≡◌, ℕ, zero, suc, ◌+◌, ◌-◌, ◌*◌, ◌/◌, ◌%◌, ◌<◌, ◌≤◌, List, [], ◌∷◌, ◌++◌, length, take, drop, slice_index}
+use Rattle.std.specs.Prelude.{◌≡◌, ℕ, zero, suc, ◌+◌, ◌-◌, ◌*◌, ◌/◌, ◌%◌, ◌<◌, ◌≤◌, List, [], ◌∷◌, ◌++◌, length, take, drop, slice_index}
 
 -- the n bytes of b from position p on
 unfoldable pub part : List ℕ → ℕ → ℕ → List ℕ

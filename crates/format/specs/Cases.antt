@@ -1,5 +1,5 @@
 -- Document 01's starred cases ("Frame S and its neighbours") as one table: a blob, what is asked of it, what is to be said.
-use Rattle.core.specs.Prelude.{ℕ, List, [], ◌∷◌, ◌++◌, replicate}
+use Rattle.std.specs.Prelude.{ℕ, List, [], ◌∷◌, ◌++◌, replicate}
 use Rattle.std.proofs.lemmas.List.Edits.{sets}
 use Rattle.format.specs.Answer.{Outcome, ok, refused, numbers, itself, refusal_numbers}
 use Rattle.format.specs.Bytes.{word}

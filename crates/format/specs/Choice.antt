@@ -1,5 +1,5 @@
 -- The one conditional of these definitions.
-use Rattle.core.specs.Prelude.{Bool, true, false}
+use Rattle.std.specs.Prelude.{Bool, true, false}
 
 infix 5 if◌then◌else◌
 unfoldable pub if◌then◌else◌ : {A : Type 0} → Bool → A → A → A

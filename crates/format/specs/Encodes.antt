@@ -16,7 +16,7 @@
 --   a value may not end at the blob's last byte      PropertyAt, inside
 --   only version 17, whatever word 24 says           Layout, version_is, and no field for word 24
 --   the blob is exactly as long as it says           Layout, length_is
-use Rattle.core.specs.Prelude.{◌≡◌, ℕ, ◌+◌, ◌<◌, Bool, true, false, List, [], ◌∷◌, ◌++◌, length, take}
+use Rattle.std.specs.Prelude.{◌≡◌, ℕ, ◌+◌, ◌<◌, Bool, true, false, List, [], ◌∷◌, ◌++◌, length, take}
 use Rattle.format.specs.Bytes.{Has, word, long, align, NoZero}
 use Rattle.format.specs.Format.{magic, version, magic_at, total_size_at, structure_at, strings_at, reservations_at, version_at, boot_cpu_at, BEGIN_NODE, END_NODE, PROP}
 use Rattle.format.specs.Utf8.{Utf8}

@@ -1,9 +1,9 @@
 -- Finding a node and a property in a tree (document 01, "Finding a node and a property"; the Rust's own `find`, `has_prop`,
 -- `prop_raw`, `prop_str`, `prop_u32`, `prop_u64`).
-use Rattle.core.specs.Prelude.{ℕ, zero, suc, ◌+◌, ◌-◌, Bool, true, false, ◌&&◌, List, [], ◌∷◌, length, take, ◌==◌, nat_le, nat_lt, slice_index}
+use Rattle.std.specs.Prelude.{ℕ, ◌+◌, ◌-◌, Bool, true, false, ◌&&◌, List, [], ◌∷◌, length, take, ◌==◌, nat_le, nat_lt, slice_index}
 use Rattle.format.specs.Choice.{if◌then◌else◌}
 use Rattle.format.specs.Answer.{Outcome, ok, refused, ◌>>=◌, check, nothing_found, missing0, too_short, utf8_error}
-use Rattle.format.specs.Bytes.{part, number, word_at}
+use Rattle.format.specs.Bytes.{number, word_at}
 use Rattle.format.specs.Format.{structure_at}
 use Rattle.format.specs.Utf8.{from_utf8}
 use Rattle.format.specs.Tree.{Property, Node, node, Nodes, none, ◌&◌, Tree, node_count}

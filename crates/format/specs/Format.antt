@@ -1,6 +1,6 @@
 -- The numbers of the format and of the tables, each once
 -- (Devicetree Specification v0.4, chapter 5; document 01, "How a blob is read" and "What a load writes").
-use Rattle.core.specs.Prelude.{ℕ}
+use Rattle.std.specs.Prelude.{ℕ}
 
 unfoldable pub magic : ℕ
 magic = 0xd00dfeed

@@ -1,5 +1,5 @@
 -- Demand 3: what the last accepted of some loads wrote is one tree, and it is that blob's.
-use Rattle.core.specs.Prelude.{◌≡◌, ℕ, ◌<◌, List, ◌∷◌}
+use Rattle.std.specs.Prelude.{◌≡◌, ℕ, ◌<◌, ◌∷◌}
 use Rattle.std.proofs.Math.Option.{Option, none, some}
 use Rattle.format.specs.Tree.{Tree, node_count}
 use Rattle.format.specs.Rules.{ours}

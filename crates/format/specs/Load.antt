@@ -1,6 +1,6 @@
 -- A load into lent tables: its answer, and what the tables hold afterwards; and loads one after another.
-use Rattle.core.specs.Prelude.{◌≡◌, ℕ, ◌/◌, ◌<◌, ◌≤◌, List, [], ◌∷◌, length, nat_eq, nat_le}
-use Rattle.std.proofs.Math.Option.{Option, none, some}
+use Rattle.std.specs.Prelude.{◌≡◌, ℕ, ◌/◌, ◌<◌, ◌≤◌, List, [], ◌∷◌, length, nat_eq, nat_le}
+use Rattle.std.proofs.Math.Option.{Option, some}
 use Rattle.std.proofs.lemmas.List.Edits.{sets}
 use Rattle.format.specs.Choice.{if◌then◌else◌}
 use Rattle.format.specs.Bytes.{AreBytes}

@@ -1,6 +1,6 @@
 -- Lookups in rows and in lent tables, whatever they hold (document 01, "Finding a node and a property").
 -- Answer 15 comes exactly where a test here fails.
-use Rattle.core.specs.Prelude.{ℕ, zero, suc, ◌+◌, Bool, true, false, ◌&&◌, ◌||◌, List, [], ◌∷◌, length, ◌==◌, nat_le, nat_lt}
+use Rattle.std.specs.Prelude.{ℕ, zero, suc, ◌+◌, Bool, ◌&&◌, ◌||◌, List, [], ◌∷◌, length, ◌==◌, nat_le, nat_lt}
 use Rattle.format.specs.Choice.{if◌then◌else◌}
 use Rattle.format.specs.Answer.{Outcome, ok, refused, ◌>>=◌, check, Span, nothing_found, not_usable}
 use Rattle.format.specs.Bytes.{part}

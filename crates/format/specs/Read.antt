@@ -1,6 +1,6 @@
 -- How a blob is read, step by step (document 01; the Rust's src/util.rs and src/lib.rs, whose names these are).
 -- The first failure is the answer.
-use Rattle.core.specs.Prelude.{ℕ, zero, suc, ◌+◌, ◌-◌, ◌^◌, Bool, true, false, not, ◌&&◌, List, [], ◌∷◌, length, take, drop, ◌==◌, nat_le, nat_lt}
+use Rattle.std.specs.Prelude.{ℕ, zero, suc, ◌+◌, ◌-◌, ◌^◌, Bool, not, List, [], ◌∷◌, length, take, drop, ◌==◌, nat_le, nat_lt}
 use Rattle.format.specs.Choice.{if◌then◌else◌}
 use Rattle.format.specs.Answer.{Outcome, ok, refused, ◌>>=◌, check, unexpected_end_of_input, parse_error, utf8_error, too_deep, invalid_magic_number, size_mismatch, version_not_supported}
 use Rattle.format.specs.Bytes.{part, value_at, align}

@@ -1,5 +1,5 @@
 -- What a load writes (document 01): the rows of a tree, by where the blob has it; their numbers; and the rows that a table holds.
-use Rattle.core.specs.Prelude.{ℕ, zero, suc, ◌+◌, List, [], ◌∷◌, ◌++◌, length, drop, slice_index, slice_index_or}
+use Rattle.std.specs.Prelude.{ℕ, zero, suc, ◌+◌, List, [], ◌∷◌, ◌++◌, length, drop, slice_index, slice_index_or}
 use Rattle.format.specs.Bytes.{word_at}
 use Rattle.format.specs.Format.{NONE, structure_at, strings_at, reservation_width, node_width, property_width}
 use Rattle.format.specs.Tree.{Property, Node, node, Nodes, none, ◌&◌, Reservation, Tree, node_count, property_count}

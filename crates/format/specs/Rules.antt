@@ -1,6 +1,6 @@
 -- What may differ between this reader and the Rust it follows, as one record with two values.
 -- Every theorem that compares the two speaks of both values; a change of a rule is a change of `ours` alone.
-use Rattle.core.specs.Prelude.{ℕ, suc, Bool, List, length, ◌==◌}
+use Rattle.std.specs.Prelude.{ℕ, suc, Bool, List, length, ◌==◌}
 use Rattle.format.specs.Tree.{Reservation}
 
 pub record Rules : Type 0 where

@@ -1,10 +1,10 @@
 -- Rows that are one tree, said of the rows: every row but the first has one parent, a walk along the links meets every row once and
 -- in order, every property row is one node's; and which tree rows and a blob tell.
-use Rattle.core.specs.Prelude.{◌≡◌, ℕ, zero, suc, ◌+◌, ◌<◌, ◌≤◌, Bool, true, false, ◌≢◌, List, [], ◌∷◌, ◌++◌, length, ◌==◌, nat_eq}
+use Rattle.std.specs.Prelude.{◌≡◌, ℕ, zero, suc, ◌+◌, ◌<◌, ◌≤◌, ◌≢◌, List, [], ◌∷◌, ◌++◌, length, ◌==◌, nat_eq}
 use Rattle.format.specs.Choice.{if◌then◌else◌}
 use Rattle.format.specs.Format.{NONE, reservation_width, node_width, property_width}
 use Rattle.format.specs.Tree.{Property, Node, node, Nodes, none, ◌&◌, Tree, node_count, property_count}
-use Rattle.format.specs.Rows.{NodeRow, PropertyRow, at, property_at, reservations_in, nodes_in, properties_in}
+use Rattle.format.specs.Rows.{NodeRow, PropertyRow, at, reservations_in, nodes_in, properties_in}
 use Rattle.format.specs.Load.{Tables, capacity}
 use Rattle.format.specs.Lookup.{name_at, property_name, value_span, bytes_of}
 

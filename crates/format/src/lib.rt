@@ -1,3 +1,5 @@
+#![tactic(auto)]
+
 // What a blob means: definitions in specs/, their laws in proofs/. The only code is their numbers, named once for the crates above.
 
 // How many numbers a row of each table has, and how a row says that there is no such row.

@@ -1,5 +1,6 @@
 // The differential program: each line of standard input is a frame in hexadecimal, and is answered by one line.
 // Any bytes get an answer. A bad line gives 16, and the next line counts again.
+#![tactic(auto)]
 mod reply;
 
 use lines::{Input, LINE};

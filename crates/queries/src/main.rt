@@ -1,5 +1,6 @@
 // Answers each line of standard input by one line: a letter names a call, the fields after it are what it is asked.
 // Any bytes get an answer. A bad line gives 16, and the next line counts again.
+#![tactic(auto)]
 mod given;
 mod loads;
 mod lookups;

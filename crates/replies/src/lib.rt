@@ -1,4 +1,5 @@
 // An answer as text: its numbers by single spaces.
+#![tactic(auto)]
 mod numbers;
 
 use answers::Answer;

@@ -1,4 +1,5 @@
 // Text that waits in a buffer, so that much goes out by one call: to standard output, or as one line to standard error.
+#![tactic(auto)]
 ghost use Rattle.std.specs.Prelude.{◌≡◌, take};
 
 use libc::{STDERR_FILENO, STDOUT_FILENO};

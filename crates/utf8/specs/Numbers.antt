@@ -1,5 +1,5 @@
 -- The answer's number, by document 01 ("When the reader says no"): 0, or 5.
-use Rattle.core.specs.Prelude.{ℕ, List, [], ◌∷◌}
+use Rattle.std.specs.Prelude.{ℕ, List, [], ◌∷◌}
 use Rattle.utf8.specs.declared.Checked.{Checked}
 use Rattle.utf8.specs.declared.Checked.TheVariants as checked
 
