@@ -21,7 +21,7 @@ use utf8::Checked;
 use values::{Number32, Number64, PropError, Text};
 
 // A number alone, or with what it carries; 0 with a part's offset and length; 0 with what a load counted.
-#[derive(Drop)]
+#[derive(Clone, Copy)]
 pub enum Answer {
     Alone(u64),
     With(u64, u64),

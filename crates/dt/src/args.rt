@@ -13,7 +13,7 @@ pub const NAME: usize = 4;
 pub const READING: usize = 5;
 
 // How a property is to be read: as the tree shows it, or by one of the lookups.
-#[derive(Drop)]
+#[derive(Clone, Copy)]
 pub enum Reading {
     Shown,
     Raw,
@@ -23,7 +23,7 @@ pub enum Reading {
 }
 
 // What is asked of a blob.
-#[derive(Drop)]
+#[derive(Clone, Copy)]
 pub enum Task {
     Check,
     Tree,
@@ -32,7 +32,7 @@ pub enum Task {
 }
 
 // What the command line asks for; where it makes no sense, a line of `help` and the place of a word.
-#[derive(Drop)]
+#[derive(Clone, Copy)]
 pub enum Asked {
     For(Task),
     Help,

@@ -27,7 +27,7 @@ const LONG_NAME: u64 = 6;
 const UNREADABLE: u64 = 7;
 
 // How many bytes a file has; or the line that tells why they are not there, and the number in it.
-#[derive(Drop)]
+#[derive(Clone, Copy)]
 enum Contents {
     Bytes(usize),
     Unread { line: u64, n: u64 },

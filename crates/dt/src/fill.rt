@@ -7,7 +7,7 @@ use show::escape;
 use text::{Output, ROOM};
 
 // The numbers in a line: that of a refusal, and two more.
-#[derive(Drop)]
+#[derive(Clone, Copy)]
 pub struct Numbers {
     pub code: u64,
     pub first: u64,
@@ -34,7 +34,7 @@ fn word(text: &mut [u8; ROOM], out: Output, place: usize) -> Output {
 }
 
 // What stands for a byte of a line.
-#[derive(Drop)]
+#[derive(Clone, Copy)]
 enum Place {
     Word(usize),
     Number(u64),

@@ -8,7 +8,7 @@ use show::{escape, fields, value};
 use text::{Output, ROOM};
 
 // Where a property is looked for: the row of its node, and the rows that there are.
-#[derive(Drop)]
+#[derive(Clone, Copy)]
 struct At {
     nodes: usize,
     props: usize,

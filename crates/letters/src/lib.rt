@@ -10,7 +10,7 @@ use answers::Answer;
 use lines::{BAD, BYTES, Count, Number};
 
 // Two numbers.
-#[derive(Drop)]
+#[derive(Clone, Copy)]
 enum Two {
     Are { a: usize, b: usize },
     Bad,

@@ -33,7 +33,7 @@ pub const READ: usize = 65536;
 
 // Where the reading is: the bytes from `at` up to `read` of the buffer are still to be taken, and `len` bytes of the line are there.
 // Whether the line is whole, and whether there may be more to read.
-#[derive(Drop)]
+#[derive(Clone, Copy)]
 pub struct Input {
     pub at: usize,
     pub read: usize,
@@ -43,14 +43,14 @@ pub struct Input {
 }
 
 // A number of 64 bits.
-#[derive(Drop)]
+#[derive(Clone, Copy)]
 pub enum Number {
     Is(usize),
     Bad,
 }
 
 // How many bytes, or words, were put at the start of a lent slice.
-#[derive(Drop)]
+#[derive(Clone, Copy)]
 pub enum Count {
     Is(usize),
     Bad,

@@ -7,7 +7,7 @@ mod write;
 pub use loading::{load, measure};
 use survey::{DeviceTree, DeviceTreeError};
 
-#[derive(Drop)]
+#[derive(Clone, Copy)]
 pub enum Loaded {
     Tree(DeviceTree),
     Refused(DeviceTreeError),

@@ -15,14 +15,14 @@ use reader::Token;
 use survey::{ALIGNED, Block, NAME_AT, OFFSET_AT, SIZE_AT, TOKEN, VALUE_AT};
 
 // What follows properties that were written, and the row after theirs.
-#[derive(Drop)]
+#[derive(Clone, Copy)]
 struct Props {
     next: usize,
     row: usize,
 }
 
 // What follows a node that was written, and the rows after its nodes' and its properties'.
-#[derive(Drop)]
+#[derive(Clone, Copy)]
 pub(crate) struct Passed {
     next: usize,
     row: usize,
@@ -30,7 +30,7 @@ pub(crate) struct Passed {
 }
 
 // The numbers of a row, in the table's order.
-#[derive(Drop)]
+#[derive(Clone, Copy)]
 struct NodeRow {
     name: u32,
     len: u32,

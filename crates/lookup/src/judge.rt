@@ -11,7 +11,7 @@ use format::{NODE_WIDTH, NONE, PROPERTY_WIDTH};
 use std::num::wrapping_add_u32;
 
 // The numbers of a node row that a lookup reads.
-#[derive(Drop)]
+#[derive(Clone, Copy)]
 pub(crate) struct NodeCells {
     pub(crate) name: u32,
     pub(crate) len: u32,
@@ -22,7 +22,7 @@ pub(crate) struct NodeCells {
 }
 
 // The numbers of a property row.
-#[derive(Drop)]
+#[derive(Clone, Copy)]
 pub(crate) struct PropertyCells {
     pub(crate) name: u32,
     pub(crate) len: u32,

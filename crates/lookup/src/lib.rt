@@ -9,7 +9,7 @@ pub use path::{find, find_from};
 pub use property::{has_prop, prop_raw, prop_raw_part};
 
 // What a path finds: the row of a node.
-#[derive(Drop)]
+#[derive(Clone, Copy)]
 pub enum Found {
     Row(usize),
     Nothing,
@@ -17,7 +17,7 @@ pub enum Found {
 }
 
 // Whether a node has a property.
-#[derive(Drop)]
+#[derive(Clone, Copy)]
 pub enum Has {
     Yes,
     No,
@@ -25,7 +25,7 @@ pub enum Has {
 }
 
 // A property's value, by its place in the blob.
-#[derive(Drop)]
+#[derive(Clone, Copy)]
 pub enum Value {
     Part { start: usize, len: usize },
     Nothing,

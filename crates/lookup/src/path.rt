@@ -14,7 +14,7 @@ use format::NONE;
 use names::name_end;
 
 // A child that was found: its row, and the link to its own first child.
-#[derive(Drop)]
+#[derive(Clone, Copy)]
 enum Child {
     At(usize, u32),
     Nothing,

@@ -4,7 +4,7 @@ use crate::{NODES, PROPERTIES, lookups, tables};
 use lines::{BYTES, Count, NAME, Number};
 
 // The numbers of a line.
-#[derive(Drop)]
+#[derive(Clone, Copy)]
 enum Numbers {
     Are(Rows),
     Bad,

@@ -4,7 +4,7 @@ use lines::Count;
 use text::{Output, ROOM};
 
 // How many rows the tables of nodes and properties have, and a row that a call starts from.
-#[derive(Drop)]
+#[derive(Clone, Copy)]
 pub struct Rows {
     pub nodes: usize,
     pub props: usize,
@@ -12,7 +12,7 @@ pub struct Rows {
 }
 
 // A name at a row: has_prop, prop_raw, prop_str, prop_u32 and prop_u64.
-#[derive(Drop)]
+#[derive(Clone, Copy)]
 pub struct Property {
     has: Answer,
     raw: Answer,
@@ -22,7 +22,7 @@ pub struct Property {
 }
 
 // A tree path, the same path from a row, and a name at that row; or a bad line.
-#[derive(Drop)]
+#[derive(Clone, Copy)]
 pub enum Looked {
     Bad,
     Found {
@@ -33,7 +33,7 @@ pub enum Looked {
 }
 
 // How many bytes a path and a name have.
-#[derive(Drop)]
+#[derive(Clone, Copy)]
 pub enum Names {
     Are { path: usize, name: usize },
     Bad,

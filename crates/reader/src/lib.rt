@@ -9,28 +9,28 @@ ghost use Rattle.reader.specs.Numbers.{word_numbers, long_numbers, place_numbers
 ghost use Rattle.reader.specs.Parts.{Within, cut};
 
 // A number of 4 bytes.
-#[derive(Drop)]
+#[derive(Clone, Copy)]
 pub enum Word {
     Got(u32),
     Short,
 }
 
 // A number of 8 bytes.
-#[derive(Drop)]
+#[derive(Clone, Copy)]
 pub enum Long {
     Got(u64),
     Short,
 }
 
 // A position.
-#[derive(Drop)]
+#[derive(Clone, Copy)]
 pub enum Place {
     At(usize),
     Short,
 }
 
 // A part of the caller's bytes, by its place.
-#[derive(Drop)]
+#[derive(Clone, Copy)]
 pub enum Span {
     Part { start: usize, len: usize },
     Short,
@@ -155,13 +155,13 @@ pub fn subslice_part(buf: &[u8], start: usize, end: usize) -> &[u8]
 }
 
 // What opens or closes a node, or opens a property.
-#[derive(Drop)]
+#[derive(Clone, Copy)]
 pub struct Token {
     pub number: u32,
 }
 
 // A token.
-#[derive(Drop)]
+#[derive(Clone, Copy)]
 pub enum Read {
     Got(Token),
     Short,

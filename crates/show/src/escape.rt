@@ -3,7 +3,7 @@
 use text::{Output, ROOM};
 
 // What the bytes are: a line or a part of it, a name, or a list of strings without the last one's zero.
-#[derive(Drop)]
+#[derive(Clone, Copy)]
 enum Bytes {
     Line,
     Name,
@@ -11,7 +11,7 @@ enum Bytes {
 }
 
 // How a byte is shown: as it is, behind a backslash, as \xNN, or as what stands between two strings.
-#[derive(Drop)]
+#[derive(Clone, Copy)]
 enum Shown {
     Plain,
     Behind,

@@ -11,7 +11,7 @@ const MAGIC_NUMBER: u32 = 0xd00dfeed;
 pub(crate) const SUPPORTED_VERSION: u32 = 17;
 
 // The words that a load needs.
-#[derive(Drop)]
+#[derive(Clone, Copy)]
 pub(crate) struct Header {
     pub(crate) structure: usize,
     pub(crate) strings: usize,
@@ -19,7 +19,7 @@ pub(crate) struct Header {
     pub(crate) boot: u32,
 }
 
-#[derive(Drop)]
+#[derive(Clone, Copy)]
 pub(crate) enum HeaderRead {
     Good(Header),
     Refused(DeviceTreeError),

@@ -37,7 +37,7 @@ pub const LENGTH_AT: usize = 8;
 // ---- answers
 
 // Why a load is refused: the Rust's reasons, and four of our own. A position, or the rows needed.
-#[derive(Drop)]
+#[derive(Clone, Copy)]
 pub enum DeviceTreeError {
     InvalidMagicNumber,
     SizeMismatch,
@@ -52,7 +52,7 @@ pub enum DeviceTreeError {
 }
 
 // What was loaded: the Rust's `DeviceTree`, with the count of rows where it has a list or a tree.
-#[derive(Drop)]
+#[derive(Clone, Copy)]
 pub struct DeviceTree {
     pub version: u32,
     pub boot_cpuid_phys: u32,
@@ -62,14 +62,14 @@ pub struct DeviceTree {
 }
 
 // Where the names of properties stand: offsets count from the start, and a name's zero byte stands before the end.
-#[derive(Drop)]
+#[derive(Clone, Copy)]
 pub struct Block {
     pub start: usize,
     pub end: usize,
 }
 
 // What a writing pass goes by: where things are, and what is to be answered.
-#[derive(Drop)]
+#[derive(Clone, Copy)]
 pub struct Plan {
     pub structure: usize,
     pub strings: Block,
@@ -77,14 +77,14 @@ pub struct Plan {
     pub tree: DeviceTree,
 }
 
-#[derive(Drop)]
+#[derive(Clone, Copy)]
 pub enum Surveyed {
     Good(Plan),
     Refused(DeviceTreeError),
 }
 
 // A position.
-#[derive(Drop)]
+#[derive(Clone, Copy)]
 enum Next {
     At(usize),
     Refused(DeviceTreeError),

@@ -11,41 +11,41 @@ use reader::{Read, Span, Token, Word};
 use utf8::Checked;
 
 // What follows properties, and how many there are.
-#[derive(Drop)]
+#[derive(Clone, Copy)]
 struct Props {
     next: usize,
     props: usize,
 }
 
-#[derive(Drop)]
+#[derive(Clone, Copy)]
 enum PropsRead {
     Good(Props),
     Refused(DeviceTreeError),
 }
 
 // A node's head: the length of its name, what follows its properties, and how many there are.
-#[derive(Drop)]
+#[derive(Clone, Copy)]
 struct Head {
     len: usize,
     next: usize,
     props: usize,
 }
 
-#[derive(Drop)]
+#[derive(Clone, Copy)]
 enum HeadRead {
     Good(Head),
     Refused(DeviceTreeError),
 }
 
 // What follows a node, and how many nodes and properties it has, itself and those below it.
-#[derive(Drop)]
+#[derive(Clone, Copy)]
 pub(crate) struct Passed {
     pub(crate) next: usize,
     pub(crate) nodes: usize,
     pub(crate) props: usize,
 }
 
-#[derive(Drop)]
+#[derive(Clone, Copy)]
 pub(crate) enum NodeRead {
     Good(Passed),
     Refused(DeviceTreeError),

@@ -8,7 +8,7 @@ use libc::{STDERR_FILENO, STDOUT_FILENO};
 pub const ROOM: usize = 32768;
 
 // How many bytes of the buffer wait to be written, whether writing still works, and whether it tells what went wrong.
-#[derive(Drop)]
+#[derive(Clone, Copy)]
 pub struct Output {
     pub used: usize,
     pub works: bool,

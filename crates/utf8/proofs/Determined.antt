@@ -1,5 +1,5 @@
 -- Nothing is left to the check: two answers that fit its promise on the same bytes are the same answer. Assumes nothing.
-use Rattle.core.specs.Prelude.{◌≡◌, ℕ, List}
+use Rattle.std.specs.Prelude.{◌≡◌, ℕ, List}
 use mathlib.Core.Path.{refl, sym, ◌∙◌}
 use Rattle.format.specs.Answer.{numbers, nothing}
 use Rattle.format.specs.Read.{utf8_check}

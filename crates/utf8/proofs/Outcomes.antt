@@ -1,7 +1,7 @@
 -- Promise and outcome: the answer's number is that of an outcome exactly where the answer stands for that outcome.
 -- For callers: `checked-outcome` turns the promise into an outcome, `checked-good` and `checked-bad` do so where the answer is known.
 -- `checked-promise` is the way back, by which the check meets its promise. Assumes nothing.
-use Rattle.core.specs.Prelude.{◌≡◌}
+use Rattle.std.specs.Prelude.{◌≡◌}
 use mathlib.Core.Path.{refl, sym, ap, ◌∙◌}
 use Rattle.format.specs.Answer.{Outcome, ok, refused, utf8_error, refusal_numbers, numbers, nothing}
 use Rattle.format.proofs.Answer.{nothing-same}

@@ -12,7 +12,7 @@ use lookup::{Value, prop_raw};
 use utf8::Checked;
 
 // Why a value is not read: the Rust's reasons, and rows that cannot be used.
-#[derive(Drop)]
+#[derive(Clone, Copy)]
 pub enum PropError {
     NotFound,
     Utf8Error,
@@ -22,28 +22,28 @@ pub enum PropError {
 }
 
 // A value's text, by its place in the blob.
-#[derive(Drop)]
+#[derive(Clone, Copy)]
 pub enum Text {
     Part { start: usize, len: usize },
     Refused(PropError),
 }
 
 // The first 4 bytes of a value.
-#[derive(Drop)]
+#[derive(Clone, Copy)]
 pub enum Number32 {
     Got(u32),
     Refused(PropError),
 }
 
 // The first 8 bytes of a value.
-#[derive(Drop)]
+#[derive(Clone, Copy)]
 pub enum Number64 {
     Got(u64),
     Refused(PropError),
 }
 
 // Where a value begins, or why its bytes are not read.
-#[derive(Drop)]
+#[derive(Clone, Copy)]
 enum Begin {
     At(usize),
     Refused(PropError),

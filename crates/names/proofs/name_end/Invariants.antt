@@ -1,0 +1,12 @@
+-- `name_end` meets its contract: no slash stands before i. Assumes nothing.
+use Prim.Native.Nat.{◌-◌}
+use lib.ListN.{length}
+use Rattle.names.specs.Scan.{Scan}
+use Rattle.names.proofs.NameLaws.{scan-more, scan-slash, scan-end}
+use Rattle.names.proofs.name_end.Given as goal
+
+abbrev pub invariant-loop-i : goal.invariant-loop-i
+invariant-loop-i l = Scan l.path l.i
+
+abbrev pub decreases-loop-i : goal.decreases-loop-i
+decreases-loop-i l = length l.path - l.i

@@ -1,0 +1,90 @@
+-- `judge_header` meets its contract: each word that was read, and each test that it passed, goes to the header's outcome by one law.
+-- Assumes nothing.
+use mathlib.Core.Path.{sym}
+use Rattle.format.specs.Format.{magic, version}
+use Rattle.survey.specs.Outcomes.{why_of}
+use Rattle.survey.specs.Outcomes.{header_outcome}
+use Rattle.reader.proofs.Outcomes.{word_got, word-short}
+use Rattle.survey.proofs.HeaderLaws.{Magic, Sized, Judged, no-magic, bad-magic, no_size, bad-size, no-version, bad-version, no-boot, whole}
+use Rattle.survey.proofs.header.judge_header.Goals as goal
+
+pub returns-in_default : goal.returns-in_default
+unfolding header_outcome why_of
+returns-in_default c = sym (no-magic _ (word-short _ c.in_default.is c.read_be_u32.ensures))
+
+pub returns-then-magic : goal.returns-then-magic
+unfolding header_outcome why_of magic
+returns-then-magic c = sym (bad-magic _ (word_got _ c.in-Got.is c.read_be_u32.ensures) c.if-magic.true)
+
+pub returns-in_default-read_be_u32 : goal.returns-in_default-read_be_u32
+unfolding header_outcome why_of magic
+returns-in_default-read_be_u32 c =
+    let passed-magic : Magic c.args.b.now = record { word = c.in-Got.magic; is = word_got _ c.in-Got.is c.read_be_u32.ensures; good = c.if-magic.false } in
+    sym (no_size _ passed-magic (word-short _ c.in_default-read_be_u32.is c.read_be_u32-2.ensures))
+
+pub returns-then-size-b : goal.returns-then-size-b
+unfolding header_outcome why_of magic
+returns-then-size-b c =
+    let passed-magic : Magic c.args.b.now = record { word = c.in-Got.magic; is = word_got _ c.in-Got.is c.read_be_u32.ensures; good = c.if-magic.false } in
+    sym (bad-size _ passed-magic (word_got _ c.in-Got-read_be_u32.is c.read_be_u32-2.ensures) c.if-size-b.true)
+
+pub returns-in_default-read_be_u32-2 : goal.returns-in_default-read_be_u32-2
+unfolding header_outcome why_of magic
+returns-in_default-read_be_u32-2 c =
+    let passed-magic : Magic c.args.b.now = record { word = c.in-Got.magic; is = word_got _ c.in-Got.is c.read_be_u32.ensures; good = c.if-magic.false } in
+    let passed-size : Sized c.args.b.now = record {
+      before = passed-magic;
+      word = c.in-Got-read_be_u32.size;
+      is = word_got _ c.in-Got-read_be_u32.is c.read_be_u32-2.ensures;
+      good = c.if-size-b.false;
+    } in
+    sym (no-version _ passed-size (word-short _ c.in_default-read_be_u32-2.is c.read_be_u32-3.ensures))
+
+pub returns-then-version-ne-SUPPORTED_VERSION : goal.returns-then-version-ne-SUPPORTED_VERSION
+unfolding header_outcome why_of version magic
+returns-then-version-ne-SUPPORTED_VERSION c =
+    let passed-magic : Magic c.args.b.now = record { word = c.in-Got.magic; is = word_got _ c.in-Got.is c.read_be_u32.ensures; good = c.if-magic.false } in
+    let passed-size : Sized c.args.b.now = record {
+      before = passed-magic;
+      word = c.in-Got-read_be_u32.size;
+      is = word_got _ c.in-Got-read_be_u32.is c.read_be_u32-2.ensures;
+      good = c.if-size-b.false;
+    } in
+    sym (bad-version _ passed-size (word_got _ c.in-Got-read_be_u32-2.is c.read_be_u32-3.ensures) c.if-version-ne-SUPPORTED_VERSION.true)
+
+pub returns-in_default-read_be_u32-3 : goal.returns-in_default-read_be_u32-3
+unfolding header_outcome why_of magic version
+returns-in_default-read_be_u32-3 c =
+    let passed-magic : Magic c.args.b.now = record { word = c.in-Got.magic; is = word_got _ c.in-Got.is c.read_be_u32.ensures; good = c.if-magic.false } in
+    let passed-size : Sized c.args.b.now = record {
+      before = passed-magic;
+      word = c.in-Got-read_be_u32.size;
+      is = word_got _ c.in-Got-read_be_u32.is c.read_be_u32-2.ensures;
+      good = c.if-size-b.false;
+    } in
+    let passed-version : Judged c.args.b.now = record {
+      before = passed-size;
+      word = c.in-Got-read_be_u32-2.version;
+      is = word_got _ c.in-Got-read_be_u32-2.is c.read_be_u32-3.ensures;
+      good = c.if-version-ne-SUPPORTED_VERSION.false;
+    } in
+    sym (no-boot _ passed-version (word-short _ c.in_default-read_be_u32-3.is c.read_be_u32-4.ensures))
+
+pub returns : goal.returns
+unfolding header_outcome magic version
+returns c =
+    let passed-magic : Magic c.args.b.now = record { word = c.in-Got.magic; is = word_got _ c.in-Got.is c.read_be_u32.ensures; good = c.if-magic.false } in
+    let passed-size : Sized c.args.b.now = record {
+      before = passed-magic;
+      word = c.in-Got-read_be_u32.size;
+      is = word_got _ c.in-Got-read_be_u32.is c.read_be_u32-2.ensures;
+      good = c.if-size-b.false;
+    } in
+    let passed-version : Judged c.args.b.now = record {
+      before = passed-size;
+      word = c.in-Got-read_be_u32-2.version;
+      is = word_got _ c.in-Got-read_be_u32-2.is c.read_be_u32-3.ensures;
+      good = c.if-version-ne-SUPPORTED_VERSION.false;
+    } in
+    sym (whole _ passed-version c.word_at.ensures c.word_at-2.ensures c.word_at-3.ensures
+    (word_got _ c.in-Got-read_be_u32-3.is c.read_be_u32-4.ensures))
