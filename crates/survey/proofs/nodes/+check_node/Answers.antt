@@ -18,7 +18,7 @@ unfolding node_outcome why_of
 returns-then-depth-eq0 t c = sym (node-deep _ _ _ _ c.if-depth-eq0.true)
 
 pub check_head-requires : goal.check_head-requires
-check_head-requires t c = c.requires.1
+check_head-requires t c = c.requires
 
 pub returns-in-Refused : goal.returns-in-Refused
 unfolding head_outcome node_outcome why_of
@@ -37,7 +37,7 @@ returns-in_default t c =
 
 pub check_node-requires : goal.check_node-requires
 check_node-requires t c =
-    (omega (arith, c.if-depth-eq0.false, c.requires.0), c.requires.1)
+    (omega (arith, c.if-depth-eq0.false), c.requires)
 
 pub overflow_add-n : goal.overflow_add-n
 unfolding AreBytes node_outcome
