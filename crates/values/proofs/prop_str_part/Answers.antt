@@ -1,0 +1,15 @@
+-- `prop_str_part` meets its contract: the part that `prop_str` tells the place of. Assumes nothing.
+use Prim.Native.Nat.{◌+◌, ◌-◌, ◌≤◌}
+use native.Mathlib.Omega.{arith}
+use lib.ListN.{length}
+use Rattle.values.proofs.Outcomes.{text-part, text-refused}
+use Rattle.format.proofs.Inside.{str-inside, bytes-there, bytes-none}
+use Rattle.values.proofs.prop_str_part.Goals as goal
+
+pub returns-in-Part : goal.returns-in-Part
+returns-in-Part c =
+    let start = c.in-Part.start in
+    bytes-there _ (text-part _ c.prop_str.ensures c.in-Part.is) (start + c.in-Part.len - start) (omega arith)
+
+pub returns-in-Refused : goal.returns-in-Refused
+returns-in-Refused c = bytes-none _ (text-refused _ c.prop_str.ensures c.in-Refused.is)
