@@ -27,3 +27,9 @@ returns-in-Nothing c = text-promise (Refused why.NotFound) (sym (then-refused _ 
 pub returns-in-Unusable : goal.returns-in-Unusable
 unfolding prop_str text_outcome why_of
 returns-in-Unusable c = text-promise (Refused why.Unusable) (sym (then-refused _ _ (value-unusable _ c.prop_raw.ensures c.in-Unusable.is)))
+
+pub overflow_add-start : goal.overflow_add-start
+overflow_add-start c = omega (arith, value-inside _ _ _ _ c.prop_raw.ensures c.in-Part.is)
+
+pub slice_bounds-text_of-end : goal.slice_bounds-text_of-end
+slice_bounds-text_of-end c = omega (arith, value-inside _ _ _ _ c.prop_raw.ensures c.in-Part.is)

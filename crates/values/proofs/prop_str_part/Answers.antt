@@ -13,3 +13,9 @@ returns-in-Part c =
 
 pub returns-in-Refused : goal.returns-in-Refused
 returns-in-Refused c = bytes-none _ (text-refused _ c.prop_str.ensures c.in-Refused.is)
+
+pub overflow_add-result : goal.overflow_add-result
+overflow_add-result c = omega (arith, str-inside _ _ _ _ _ (text-part _ c.prop_str.ensures c.in-Part.is))
+
+pub slice_bounds-result-end : goal.slice_bounds-result-end
+slice_bounds-result-end c = omega (arith, str-inside _ _ _ _ _ (text-part _ c.prop_str.ensures c.in-Part.is))
