@@ -1,18 +1,18 @@
 -- `letters::both` meets its contract: what the two fields spell. Assumes nothing.
 use borrow.Author.Rules.{rules}
-use Rattle.letters.proofs.ReplyLaws.{spells, first-bad, second-bad, both-are}
+use Rattle.letters.proofs.ReplyLaws.{spells, first_bad, second_bad, both_are}
 use Rattle.letters.proofs.both.Statement.{statement}
 use Rattle.letters.proofs.both.Tie as tie
 
 returns : tie.Need-returns
-returns c = first-bad _ (spells c.before.before.decimal.ensures c.before.before.before.first.ensures c.enum_told.given.1)
+returns c = first_bad _ (spells c.before.before.decimal.ensures c.before.before.before.first.ensures c.enum_told.given.1)
 
 returns-2 : tie.Need-returns-2
 returns-2 c =
     let a = c.before.before.before.before.before.a in
     let decimal = c.before.before.before.before.before.before.before.decimal in
     let first = c.before.before.before.before.before.before.before.before.first in
-    second-bad (spells decimal.ensures first.ensures a.given.1)
+    second_bad (spells decimal.ensures first.ensures a.given.1)
     (spells c.before.before.decimal2.ensures c.before.before.before.rest.ensures c.enum-told2.given.1)
 
 returns-3 : tie.Need-returns-3
@@ -20,7 +20,7 @@ returns-3 c =
     let a = c.before.before.before.before.before.before.a in
     let decimal = c.before.before.before.before.before.before.before.before.decimal in
     let first = c.before.before.before.before.before.before.before.before.before.first in
-    both-are (spells decimal.ensures first.ensures a.given.1)
+    both_are (spells decimal.ensures first.ensures a.given.1)
     (spells c.before.before.before.decimal2.ensures c.before.before.before.before.rest.ensures c.before.b.given.1)
 
 pub both-spec : {M : Type 1} → statement M

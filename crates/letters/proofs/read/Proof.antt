@@ -3,7 +3,7 @@ use borrow.Author.Rules.{rules}
 use native.Mathlib.Omega.{arith}
 use mathlib.Core.Path.{◌∙◌}
 use Rattle.answers.specs.Answers.{answer_numbers}
-use Rattle.letters.proofs.ReplyLaws.{reads_word, reads-long, reads-string, reads_nothing}
+use Rattle.letters.proofs.ReplyLaws.{reads_word, reads_long, reads_string, reads_nothing}
 use Rattle.letters.proofs.read.Statement.{statement}
 use Rattle.letters.proofs.read.Tie as tie
 
@@ -11,10 +11,10 @@ returns : tie.Need-returns
 returns c = c.of_word.ensures ∙ c.before.read_be_u32.ensures ∙ reads_word _ _ _ (omega arith)
 
 returns-2 : tie.Need-returns-2
-returns-2 c = c.of-long.ensures ∙ c.before.read_be_u64.ensures ∙ reads-long _ _ _ (omega arith)
+returns-2 c = c.of-long.ensures ∙ c.before.read_be_u64.ensures ∙ reads_long _ _ _ (omega arith)
 
 returns-3 : tie.Need-returns-3
-returns-3 c = c.of-span.ensures ∙ c.before.read_bstring0.ensures ∙ reads-string _ _ _ (omega arith)
+returns-3 c = c.of-span.ensures ∙ c.before.read_bstring0.ensures ∙ reads_string _ _ _ (omega arith)
 
 returns-4 : tie.Need-returns-4
 unfolding answer_numbers

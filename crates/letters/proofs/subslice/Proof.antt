@@ -3,20 +3,20 @@ use borrow.Author.Rules.{rules}
 use mathlib.Core.Path.{◌∙◌}
 use Rattle.answers.specs.Answers.{answer_numbers}
 use Rattle.letters.specs.Replies.{numbers_reply}
-use Rattle.letters.proofs.ReplyLaws.{two-bad, two-are}
+use Rattle.letters.proofs.ReplyLaws.{two_bad, two_are}
 use Rattle.letters.proofs.subslice.Statement.{statement}
 use Rattle.letters.proofs.subslice.Tie as tie
 
 returns : tie.Need-returns
 unfolding answer_numbers numbers_reply
-returns c = two-bad _ c.before.before.both.ensures c.enum_told.given.1
+returns c = two_bad _ c.before.before.both.ensures c.enum_told.given.1
 
 returns-2 : tie.Need-returns-2
 unfolding numbers_reply
 returns-2 c =
     let a = c.before.before.before.a in
     let both = c.before.before.before.before.before.both in
-    c.of-span.ensures ∙ c.before.subslice.ensures ∙ two-are _ both.ensures a.given.1
+    c.of-span.ensures ∙ c.before.subslice.ensures ∙ two_are _ both.ensures a.given.1
 
 pub subslice-spec : {M : Type 1} → statement M
 subslice-spec =

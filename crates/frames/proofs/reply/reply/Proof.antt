@@ -2,7 +2,7 @@
 use mathlib.Core.Path.{◌∙◌, sym, ap}
 use borrow.Author.Rules.{rules}
 use Rattle.answers.specs.Answers.{answer_numbers}
-use Rattle.lines.proofs.FieldLaws.{put-bad, put_is}
+use Rattle.lines.proofs.FieldLaws.{put_bad, put_is}
 use Rattle.frames.specs.Frames.{load_reply, spelled_reply, frame_reply}
 use Rattle.frames.proofs.reply.reply.Statement.{statement}
 use Rattle.frames.proofs.reply.reply.Tie as tie
@@ -11,7 +11,7 @@ returns : tie.Need-returns
 unfolding answer_numbers spelled_reply frame_reply
 returns c =
     let hex = c.before.before.before.hex in
-    sym (ap spelled_reply (put-bad c.enum_told.given.1 hex.ensures))
+    sym (ap spelled_reply (put_bad c.enum_told.given.1 hex.ensures))
 
 returns-2 : tie.Need-returns-2
 unfolding spelled_reply frame_reply

@@ -7,7 +7,7 @@ use mathlib.Core.List.{◌++◌}
 use borrow.Author.Rules.{rules}
 use lib.ListN.{length, take, drop}
 use Rattle.lines.specs.Fields.{first_of, rest_of}
-use Rattle.lines.proofs.FieldLaws.{drop_past, first-nil, rest-nil, first-space, rest-space, rest_more, first-grows, first_ends}
+use Rattle.lines.proofs.FieldLaws.{drop_past, first_nil, rest_nil, first_space, rest_space, rest_more, first_grows, first_ends}
 use Rattle.lines.proofs.fields.end.Statement.{statement}
 use Rattle.lines.proofs.fields.end.Tie as tie
 
@@ -26,7 +26,7 @@ loop-again c =
     let loop = c.before.before.before.loop in
     let loop-test = c.before.before.loop-test in (
       omega arith,
-      first-grows _ _ loop-test.true c.if1.false loop.invariant.1,
+      first_grows _ _ loop-test.true c.if1.false loop.invariant.1,
       loop.invariant.2 ∙ rest_more _ _ loop-test.true c.if1.false,
     )
 
@@ -37,8 +37,8 @@ returns c =
     let loop-test = c.before.before.loop-test in
     record {
       within = search rules;
-      first = first_ends args.s.now loop.i loop.invariant.1 (first-space args.s.now loop.i loop-test.true c.if1.true);
-      rest = loop.invariant.2 ∙ rest-space _ _ loop-test.true c.if1.true;
+      first = first_ends args.s.now loop.i loop.invariant.1 (first_space args.s.now loop.i loop-test.true c.if1.true);
+      rest = loop.invariant.2 ∙ rest_space _ _ loop-test.true c.if1.true;
     }
 
 returns-2 : tie.Need-returns-2 invariant-loop decreases-loop
@@ -46,8 +46,8 @@ returns-2 c =
     let args = c.before.before.args in
     record {
       within = search rules;
-      first = first_ends args.s.now c.before.loop.i c.before.loop.invariant.1 (first-nil args.s.now c.before.loop.i c.loop-test.false);
-      rest = c.before.loop.invariant.2 ∙ rest-nil _ _ c.loop-test.false ∙ sym (drop_past args.s.now c.before.loop.i c.loop-test.false);
+      first = first_ends args.s.now c.before.loop.i c.before.loop.invariant.1 (first_nil args.s.now c.before.loop.i c.loop-test.false);
+      rest = c.before.loop.invariant.2 ∙ rest_nil _ _ c.loop-test.false ∙ sym (drop_past args.s.now c.before.loop.i c.loop-test.false);
     }
 
 pub end-spec : {M : Type 1} → statement M

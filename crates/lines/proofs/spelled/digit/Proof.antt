@@ -2,7 +2,7 @@
 use native.Mathlib.Omega.{arith}
 use mathlib.Core.Path.{sym}
 use borrow.Author.Rules.{rules}
-use Rattle.lines.proofs.FieldLaws.{digit-number, digit-upper, digit-lower, below-numbers, below-upper, below-lower, above_lower}
+use Rattle.lines.proofs.FieldLaws.{digit_number, digit_upper, digit_lower, below_numbers, below_upper, below_lower, above_lower}
 use Rattle.lines.proofs.spelled.digit.Statement.{statement}
 use Rattle.lines.proofs.spelled.digit.Tie as tie
 
@@ -15,10 +15,10 @@ digit-spec =
     (λ c. search rules)
     (λ c. search rules)
     (λ c. search rules)
-    (λ c. sym (digit-number _ (omega arith) (omega arith)))
-    (λ c. sym (digit-upper _ (omega arith) (omega arith)))
-    (λ c. sym (digit-lower _ (omega arith) (omega arith)))
-    (λ c. sym (below-numbers _ (omega arith)))
-    (λ c. sym (below-upper _ (omega arith) (omega arith)))
-    (λ c. sym (below-lower _ (omega arith) (omega arith)))
+    (λ c. sym (digit_number _ (omega arith) (omega arith)))
+    (λ c. sym (digit_upper _ (omega arith) (omega arith)))
+    (λ c. sym (digit_lower _ (omega arith) (omega arith)))
+    (λ c. sym (below_numbers _ (omega arith)))
+    (λ c. sym (below_upper _ (omega arith) (omega arith)))
+    (λ c. sym (below_lower _ (omega arith) (omega arith)))
     (λ c. sym (above_lower _ (omega arith))))

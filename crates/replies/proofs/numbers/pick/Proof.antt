@@ -1,7 +1,7 @@
 -- `replies::numbers::pick` meets its contract: the number at each place, and 0 past them. Assumes nothing.
 use native.Mathlib.Omega.{arith}
 use borrow.Author.Rules.{rules}
-use Rattle.replies.proofs.Padded.{past-six}
+use Rattle.replies.proofs.Padded.{past_six}
 use Rattle.replies.proofs.numbers.pick.Statement.{statement}
 use Rattle.replies.proofs.numbers.pick.Tie as tie
 
@@ -15,4 +15,4 @@ pick_spec =
     (λ c. search rules)
     (λ c. search rules)
     (λ c. search rules)
-    (λ c. past-six _ _ _ _ _ _ c.before.args.i (omega arith)))
+    (λ c. past_six _ _ _ _ _ _ c.before.args.i (omega arith)))
