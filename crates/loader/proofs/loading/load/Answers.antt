@@ -21,26 +21,30 @@ returns-in-Refused c =
 pub returns-then-reserved-tree : goal.returns-then-reserved-tree
 unfolding lent capacity reservation_width survey_outcome
 returns-then-reserved-tree c =
+    let tables : Tables = let a = c.args in lent a.reserved.now a.nodes.now a.props.now in
     let isPlan : survey_of c.args.b.now ≡ ok c.in-Good.plan = sym c.survey.ensures ∙ ap survey_outcome c.in-Good.is in
-    no-reservation-room c _ _ isPlan c.if-reserved-tree.true
+    no-reservation-room tables _ _ isPlan c.if-reserved-tree.true
 
 pub returns-then-nodes-tree : goal.returns-then-nodes-tree
 unfolding lent capacity reservation_width node_width survey_outcome
 returns-then-nodes-tree c =
+    let tables : Tables = let a = c.args in lent a.reserved.now a.nodes.now a.props.now in
     let isPlan : survey_of c.args.b.now ≡ ok c.in-Good.plan = sym c.survey.ensures ∙ ap survey_outcome c.in-Good.is in
-    no-node-room c _ _ isPlan c.if-reserved-tree.false c.if-nodes-tree.true
+    no-node-room tables _ _ isPlan c.if-reserved-tree.false c.if-nodes-tree.true
 
 pub returns-then-props-tree : goal.returns-then-props-tree
 unfolding lent capacity reservation_width node_width property_width survey_outcome
 returns-then-props-tree c =
+    let tables : Tables = let a = c.args in lent a.reserved.now a.nodes.now a.props.now in
     let isPlan : survey_of c.args.b.now ≡ ok c.in-Good.plan = sym c.survey.ensures ∙ ap survey_outcome c.in-Good.is in
-    no-property-room c _ _ isPlan c.if-reserved-tree.false c.if-nodes-tree.false c.if-props-tree.true
+    no-property-room tables _ _ isPlan c.if-reserved-tree.false c.if-nodes-tree.false c.if-props-tree.true
 
 pub store-requires : goal.store-requires
 unfolding lent survey_outcome capacity reservation_width node_width property_width AreBytes
 store-requires c =
     let isPlan : survey_of c.args.b.now ≡ ok c.in-Good.plan = sym c.survey.ensures ∙ ap survey_outcome c.in-Good.is in
-    let passes : Passes c c.args.b.now c.in-Good.plan = record {
+    let tables : Tables = let a = c.args in lent a.reserved.now a.nodes.now a.props.now in
+    let passes : Passes tables c.args.b.now c.in-Good.plan = record {
       survey = isPlan;
       reserved = c.if-reserved-tree.false;
       nodes = c.if-nodes-tree.false;
@@ -53,7 +57,8 @@ pub write_node-requires : goal.write_node-requires
 unfolding lent ours survey_outcome capacity reservation_width node_width property_width AreBytes
 write_node-requires c =
     let isPlan : survey_of c.args.b.now ≡ ok c.in-Good.plan = sym c.survey.ensures ∙ ap survey_outcome c.in-Good.is in
-    let passes : Passes c c.args.b.now c.in-Good.plan = record {
+    let tables : Tables = let a = c.args in lent a.reserved.now a.nodes.now a.props.now in
+    let passes : Passes tables c.args.b.now c.in-Good.plan = record {
       survey = isPlan;
       reserved = c.if-reserved-tree.false;
       nodes = c.if-nodes-tree.false;
@@ -66,7 +71,8 @@ pub returns : goal.returns
 unfolding lent NONE passed survey_outcome capacity reservation_width node_width property_width AreBytes
 returns c =
     let isPlan : survey_of c.args.b.now ≡ ok c.in-Good.plan = sym c.survey.ensures ∙ ap survey_outcome c.in-Good.is in
-    let passes : Passes c c.args.b.now c.in-Good.plan = record {
+    let tables : Tables = let a = c.args in lent a.reserved.now a.nodes.now a.props.now in
+    let passes : Passes tables c.args.b.now c.in-Good.plan = record {
       survey = isPlan;
       reserved = c.if-reserved-tree.false;
       nodes = c.if-nodes-tree.false;

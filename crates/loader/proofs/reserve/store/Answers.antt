@@ -18,9 +18,6 @@ bounds-table-at-in-loop-pos c =
     let room : let l = c.loop-pos in l.at + 2 ≤ length l.table = store-room _ c.loop-pos.invariant in
     simp length-set (omega (arith, room))
 
-pub UNKNOWN-same-length : goal.UNKNOWN-same-length
-UNKNOWN-same-length c = simp length-set c.loop-pos.invariant.long
-
 pub returns-then-size-eq0 : goal.returns-then-size-eq0
 returns-then-size-eq0 c =
     store-last _ c.loop-pos.invariant c.long_at-offset.ensures c.long_at-size.ensures c.if-size-eq0.true
@@ -41,3 +38,8 @@ loop-pos-smaller c = omega (arith, store-inside _ c.loop-pos.invariant)
 pub loop-pos-preserved : goal.loop-pos-preserved
 loop-pos-preserved c =
     store-again _ c.loop-pos.invariant c.long_at-offset.ensures c.long_at-size.ensures c.if-size-eq0.false
+
+pub bounds-table-at : goal.bounds-table-at
+bounds-table-at c =
+    let room : let l = c.loop-pos in l.at + 2 ≤ length l.table = store-room _ c.loop-pos.invariant in
+    omega arith

@@ -10,19 +10,16 @@ use Rattle.loader.proofs.ChildLaws.{NodesInv, node-few, node-head, node-start, n
 use Rattle.loader.proofs.ChildLaws.{turn_inside, child-ready, child-few, child-room, child-less, child-again}
 use Rattle.loader.proofs.write.+write_node.Goals as goal
 
-abbrev depth_of : Measures 3 kinds.ps ℕ
-depth_of κs a = a.1.1.0
-
 pub write_head-own-requires : goal.write_head-own-requires
-write_head-own-requires t c = node-head c.requires.1
+write_head-own-requires t c = node-head c.requires
 
 pub overflow_add-r : goal.overflow_add-r
 overflow_add-r t c =
-    record { fits = omega (arith, node-few c.requires.1) }
+    record { fits = omega (arith, node-few c.requires) }
 
 pub loop-token-init : goal.loop-token-init
 loop-token-init t c =
-    node-start c.requires.1 c.write_head-own.ensures c.word_at-token.ensures
+    node-start c.requires c.write_head-own.ensures c.word_at-token.ensures
 
 pub overflow_sub-depth : goal.overflow_sub-depth
 overflow_sub-depth t c = omega (arith, c.loop-token.invariant.deep)
@@ -33,45 +30,35 @@ overflow_cast-row t c = record { fits = omega (arith, c.loop-token.invariant.par
 pub write_node-child-requires : goal.write_node-child-requires
 unfolding BEGIN_NODE
 write_node-child-requires t c =
-    (omega (arith, c.loop-token.invariant.deep, c.requires.0), child-ready c.loop-token.invariant c.loop-token-test.true)
+    (omega (arith, c.loop-token.invariant.deep), child-ready c.loop-token.invariant c.loop-token-test.true)
 
 pub overflow_cast-r : goal.overflow_cast-r
 unfolding BEGIN_NODE
 overflow_cast-r t c =
-    record { fits = omega (arith, child-few c.loop-token.invariant c.loop-token-test.taken c.write_node-child.result _ _ c.write_node-child.ensures) }
+    record { fits = omega (arith, child-few c.loop-token.invariant c.loop-token-test.true c.write_node-child.result _ _ c.write_node-child.ensures) }
 
 pub link-requires : goal.link-requires
 unfolding BEGIN_NODE
 link-requires t c =
-    child-room c.loop-token.invariant c.loop-token-test.taken c.write_node-child.result _ _ c.write_node-child.ensures
+    child-room c.loop-token.invariant c.loop-token-test.true c.write_node-child.result _ _ c.write_node-child.ensures
 
 pub loop-token-smaller : goal.loop-token-smaller
 unfolding BEGIN_NODE
 loop-token-smaller t c =
-    child-less c.loop-token.invariant c.loop-token-test.taken c.write_node-child.result _ _ c.write_node-child.ensures
+    child-less c.loop-token.invariant c.loop-token-test.true c.write_node-child.result _ _ c.write_node-child.ensures
 
 pub loop-token-preserved : goal.loop-token-preserved
 unfolding BEGIN_NODE
 loop-token-preserved t c =
-    child-again c.loop-token.invariant c.loop-token-test.taken c.write_node-child.result _ _ c.write_node-child.ensures
-    c.word_at-token-in-loop-token.ensures c.link.ensures
+    child-again c.loop-token.invariant c.loop-token-test.true c.write_node-child.result _ _ c.write_node-child.ensures
+    c.word_at-token-in-loop-token.ensures (c.link.ensures.some, c.link.ensures.none)
 
 pub overflow_add-result : goal.overflow_add-result
 overflow_add-result t c =
     let inv = c.loop-token.invariant in
     record { fits = omega (arith, turn_inside inv, inv.small) }
 
-pub UNKNOWN-same-length : goal.UNKNOWN-same-length
-unfolding BEGIN_NODE
-UNKNOWN-same-length t c =
-    node-nodes c.requires.1 c.write_head-own.ensures c.loop-token.invariant c.loop-token-test.false
-
-pub UNKNOWN-same-length-2 : goal.UNKNOWN-same-length-2
-unfolding BEGIN_NODE
-UNKNOWN-same-length-2 t c =
-    node-props c.requires.1 c.write_head-own.ensures c.loop-token.invariant c.loop-token-test.false
-
 pub returns : goal.returns
 unfolding passed BEGIN_NODE
 returns t c =
-    node_end c.requires.1 c.write_head-own.ensures c.loop-token.invariant c.loop-token-test.false
+    node_end c.requires c.write_head-own.ensures c.loop-token.invariant c.loop-token-test.false

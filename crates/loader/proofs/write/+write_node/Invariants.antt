@@ -16,3 +16,6 @@ invariant-loop-token l =
 
 abbrev pub decreases-loop-token : goal.decreases-loop-token
 decreases-loop-token l = length l.b + 4 - l.p
+
+abbrev pub decreases-write_node : goal.decreases-write_node
+decreases-write_node l = l.depth

@@ -7,7 +7,9 @@ use Rattle.loader.specs.Pass.{child_row}
 use Rattle.loader.proofs.write.child_row.Goals as goal
 
 pub returns-then-token-eq-BEGIN_NODE : goal.returns-then-token-eq-BEGIN_NODE
+unfolding child_row BEGIN_NODE NONE
 returns-then-token-eq-BEGIN_NODE c = sym (if_yes _ _ (eq-eqb _ _ c.if-token-eq-BEGIN_NODE.true))
 
 pub returns : goal.returns
+unfolding child_row BEGIN_NODE NONE
 returns c = sym (if_no _ _ (ne_eqb _ _ c.if-token-eq-BEGIN_NODE.false))

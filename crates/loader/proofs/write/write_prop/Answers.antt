@@ -34,7 +34,7 @@ overflow_cast-len c =
 pub returns : goal.returns
 unfolding block
 returns c =
-    let ready = c.requires in (
-      prop-next ready c.word_at-size.ensures c.aligned.ensures,
-      prop-stored ready c.word_at-size.ensures c.word_at-offset.ensures c.string_len-len.ensures c.put_prop.ensures,
-    )
+    let ready = c.requires in record {
+      next = prop-next ready c.word_at-size.ensures c.aligned.ensures;
+      stored = prop-stored ready c.word_at-size.ensures c.word_at-offset.ensures c.string_len-len.ensures c.put_prop.ensures;
+    }

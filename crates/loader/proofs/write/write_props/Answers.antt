@@ -26,16 +26,12 @@ overflow_add-r c =
 pub loop-strings-smaller : goal.loop-strings-smaller
 unfolding PROP
 loop-strings-smaller c =
-    props-less c.loop-strings.invariant (sym c.word_at.ensures ∙ c.loop-strings-test.true) c.write_prop-p.ensures.0
+    props-less c.loop-strings.invariant (sym c.word_at.ensures ∙ c.loop-strings-test.true) c.write_prop-p.ensures.next
 
 pub loop-strings-preserved : goal.loop-strings-preserved
 unfolding PROP
 loop-strings-preserved c =
-    props-again c.loop-strings.invariant (sym c.word_at.ensures ∙ c.loop-strings-test.true) c.write_prop-p.ensures.0 c.write_prop-p.ensures.1
-
-pub UNKNOWN-same-length : goal.UNKNOWN-same-length
-UNKNOWN-same-length c =
-    props-long c.loop-strings.invariant c.requires
+    props-again c.loop-strings.invariant (sym c.word_at.ensures ∙ c.loop-strings-test.true) c.write_prop-p.ensures.next c.write_prop-p.ensures.stored
 
 pub returns : goal.returns
 unfolding props_state PROP

@@ -17,4 +17,4 @@ pub slice_bounds-result-end : goal.slice_bounds-result-end
 slice_bounds-result-end c = omega (arith, value-inside _ _ _ _ c.prop_raw.ensures c.in-Part.is)
 
 pub returns-in_default : goal.returns-in_default
-returns-in_default c = no_part _ _ _ c.prop_raw.ensures c.in_default.in_default-own.keys2
+returns-in_default c = no_part _ _ _ c.prop_raw.ensures c.in_default.not-Part
