@@ -19,7 +19,7 @@ differing() {
 case "${1:-}" in
 --random)
     if [ ! -x "$program" ]; then
-        echo "readers.sh: no $program: run rt run in crates/queries first." >&2
+        echo "readers.sh: no $program: run rt run < stdin in crates/queries first." >&2
         exit 2
     fi
     python3 compare/make_queries.py "${3:-1}" "${2:-300000}" > "$made/random.in"
