@@ -1,7 +1,6 @@
 -- Looking up a property, a row at a time, and `prop_raw` by cases. Assumes nothing.
-use Rattle.std.proofs.Common.{◌≡◌, ℕ, suc, ◌+◌, ◌-◌, ◌/◌, ◌<◌, ◌≤◌, true, false, leb, ◌⊎◌, List, [], length, sym, refl, ◌∙◌, ⊎_elim, arith, le-leb}
+use Rattle.std.proofs.Common.{◌≡◌, ℕ, suc, ◌+◌, ◌-◌, ◌/◌, ◌<◌, ◌≤◌, true, false, leb, List, [], length, sym, refl, ◌∙◌, arith, le-leb}
 use borrow.Author.Tests.{lt-leb}
-use denote.Enum.Declared.{tag_of}
 use Rattle.format.specs.Answer.{Outcome, ok, refused, Span, nothing_found, not_usable, numbers, place, or_empty}
 use Rattle.format.specs.Agrees.{bytes_in}
 use Rattle.format.specs.Bytes.{part}
@@ -19,7 +18,6 @@ use Rattle.lookup.specs.declared.judge.NodeCells.{NodeCells}
 use Rattle.lookup.specs.declared.judge.PropertyCells.{PropertyCells}
 use Rattle.lookup.specs.declared.Value.{Value}
 use Rattle.lookup.specs.declared.Value.TheVariants as value
-use Rattle.lookup.specs.contracts.Value.{the_type}
 use Rattle.lookup.proofs.Outcomes.{value-nothing, value-unusable}
 use Rattle.lookup.proofs.PathLaws.{used}
 use Rattle.lookup.proofs.RowLaws.{properties-length, node-read, property-read}

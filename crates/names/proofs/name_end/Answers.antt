@@ -1,7 +1,4 @@
 -- `name_end` meets its contract: no slash stands before i. Assumes nothing.
-use Prim.Native.Nat.{◌-◌}
-use lib.ListN.{length}
-use Rattle.names.specs.Scan.{Scan}
 use Rattle.names.proofs.NameLaws.{scan-more, scan-slash, scan-end}
 use Rattle.names.proofs.name_end.Goals as goal
 

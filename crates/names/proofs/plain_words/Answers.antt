@@ -1,8 +1,5 @@
 -- `plain_words` meets its contract: no slash stands before i. Measure: the bytes ahead. Assumes nothing.
 use native.Mathlib.Omega.{arith}
-use Prim.Native.Nat.{◌-◌}
-use lib.ListN.{length}
-use Rattle.names.specs.Scan.{Scan}
 use Rattle.names.proofs.NameLaws.{scan-start}
 use Rattle.names.proofs.plain_words.Goals as goal
 

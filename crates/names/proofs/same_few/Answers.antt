@@ -1,9 +1,8 @@
 -- `same_few` meets its contract: before each turn every byte from i on is the same. Assumes nothing.
 use borrow.Author.Rules.{rules}
 use native.Mathlib.Omega.{arith}
-use Prim.Native.Nat.{◌-◌, ◌≤◌}
-use lib.ListN.{length}
-use Rattle.names.proofs.NameLaws.{Alike, alike_same, alike-more, byte-differs}
+use Prim.Native.Nat.{◌-◌}
+use Rattle.names.proofs.NameLaws.{alike_same, alike-more, byte-differs}
 use Rattle.names.proofs.same_few.Goals as goal
 
 pub loop-i-init : goal.loop-i-init

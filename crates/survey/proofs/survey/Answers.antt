@@ -21,7 +21,7 @@ returns-in-Refused c = sym (no_header _ (sym c.judge_header.ensures ∙ ap heade
 pub scan-requires : goal.scan-requires
 unfolding AreBytes header_outcome
 scan-requires c =
-    let bytes : AreBytes c.args.b.now = λ i. (c.shared_slice_known-1.given i).fits in
+    let bytes : AreBytes c.args.b.now = λ i. (c.type_inv.b i).fits in
     let isHeader : header_of c.args.b.now ≡ ok c.in-Good.header = sym c.judge_header.ensures ∙ ap header_outcome c.in-Good.is in
     let fits : Fits c.args.b.now c.in-Good.header = header-fits _ _ bytes isHeader in
     let f = fits in record { blob = f.blob; start = f.reservations }
@@ -35,7 +35,7 @@ returns-in-Refused-scan c =
 pub check_node-requires : goal.check_node-requires
 unfolding AreBytes header_outcome
 check_node-requires c =
-    let bytes : AreBytes c.args.b.now = λ i. (c.shared_slice_known-1.given i).fits in
+    let bytes : AreBytes c.args.b.now = λ i. (c.type_inv.b i).fits in
     let isHeader : header_of c.args.b.now ≡ ok c.in-Good.header = sym c.judge_header.ensures ∙ ap header_outcome c.in-Good.is in
     let fits : Fits c.args.b.now c.in-Good.header = header-fits _ _ bytes isHeader in
     let f = fits in record { blob = f.blob; start = f.strings; end = omega arith }

@@ -1,6 +1,5 @@
 -- `all_steps` meets its promise. The invariant: the bytes are UTF-8 exactly where those from i on are what the state expects.
 -- Assumes nothing.
-use Rattle.std.specs.Prelude.{◌≡◌, ◌-◌, ◌<◌, ◌≤◌, length, drop}
 use mathlib.Core.Path.{refl, sym, ◌∙◌}
 use native.Mathlib.Omega.{arith}
 use borrow.Author.Tests.{eq-eqb, ne_eqb}

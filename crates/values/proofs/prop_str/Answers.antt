@@ -1,8 +1,7 @@
 -- `prop_str` meets its contract: what `text_of` makes of the value that `prop_raw` tells the place of. Assumes nothing.
-use Prim.Native.Nat.{◌+◌, ◌-◌, ◌≤◌}
+use Prim.Native.Nat.{◌+◌, ◌-◌}
 use native.Mathlib.Omega.{arith}
 use mathlib.Core.Path.{sym, ◌∙◌}
-use lib.ListN.{length}
 use Rattle.format.specs.Lookup.{prop_str}
 use Rattle.format.proofs.Answer.{then-refused}
 use Rattle.values.specs.Answers.{text_outcome, why_of}

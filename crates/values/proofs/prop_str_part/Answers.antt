@@ -1,7 +1,6 @@
 -- `prop_str_part` meets its contract: the part that `prop_str` tells the place of. Assumes nothing.
-use Prim.Native.Nat.{◌+◌, ◌-◌, ◌≤◌}
+use Prim.Native.Nat.{◌+◌, ◌-◌}
 use native.Mathlib.Omega.{arith}
-use lib.ListN.{length}
 use Rattle.values.proofs.Outcomes.{text-part, text-refused}
 use Rattle.format.proofs.Inside.{str-inside, bytes-there, bytes-none}
 use Rattle.values.proofs.prop_str_part.Goals as goal

@@ -49,7 +49,7 @@ store-requires c =
       reserved = c.if-reserved-tree.false;
       nodes = c.if-nodes-tree.false;
       props = c.if-props-tree.false;
-      bytes = λ i. (c.shared_slice_known-1.given i).fits;
+      bytes = λ i. (c.type_inv.b i).fits;
     } in
     stores-ready passes
 
@@ -63,7 +63,7 @@ write_node-requires c =
       reserved = c.if-reserved-tree.false;
       nodes = c.if-nodes-tree.false;
       props = c.if-props-tree.false;
-      bytes = λ i. (c.shared_slice_known-1.given i).fits;
+      bytes = λ i. (c.type_inv.b i).fits;
     } in
     writes-ready passes
 
@@ -77,6 +77,6 @@ returns c =
       reserved = c.if-reserved-tree.false;
       nodes = c.if-nodes-tree.false;
       props = c.if-props-tree.false;
-      bytes = λ i. (c.shared_slice_known-1.given i).fits;
+      bytes = λ i. (c.type_inv.b i).fits;
     } in
     loaded passes c.store.ensures c.write_node.ensures

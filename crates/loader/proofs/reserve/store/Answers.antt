@@ -1,10 +1,10 @@
 -- `store` meets its contract. The invariant: what is left to store from p on leaves what storing from pos on would have left.
 -- The measure is what is left of the blob. Assumes nothing.
 use borrow.Author.Rules.{rules}
-use Prim.Native.Nat.{◌+◌, ◌-◌, ◌≤◌}
+use Prim.Native.Nat.{◌+◌, ◌≤◌}
 use native.Mathlib.Omega.{arith}
 use lib.ListN.{length, length-set}
-use Rattle.loader.proofs.StoreLaws.{StoreLeft, store-start, store-inside, store-room, store-last, store-again}
+use Rattle.loader.proofs.StoreLaws.{store-start, store-inside, store-room, store-last, store-again}
 use Rattle.loader.proofs.reserve.store.Goals as goal
 
 pub loop-pos-init : goal.loop-pos-init

@@ -1,5 +1,5 @@
 -- `leads_on` meets its contract: the laws `back-bad` and `on-good` of a link to an earlier and to a later row. Assumes nothing.
-use Rattle.std.proofs.Common.{leb, sym, ap, ◌∙◌, arith, rules}
+use Rattle.std.proofs.Common.{leb, sym, ap, ◌∙◌, arith}
 use Rattle.format.specs.Format.{NONE}
 use Rattle.lookup.proofs.RowLaws.{back-bad, on-good}
 use Rattle.lookup.proofs.judge.leads_on.Goals as goal

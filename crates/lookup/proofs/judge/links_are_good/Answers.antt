@@ -1,6 +1,5 @@
 -- `links_are_good` meets its contract: one link, then the other. Assumes nothing.
-use Rattle.std.proofs.Common.{sym, ◌∙◌, rules}
-use borrow.Author.Tests.{not-true, not-false}
+use Rattle.std.proofs.Common.{sym, ◌∙◌}
 use Rattle.lookup.proofs.RowLaws.{child-bad, child-good}
 use Rattle.lookup.proofs.judge.links_are_good.Goals as goal
 

@@ -1,6 +1,5 @@
 -- `row_is_good` meets its contract: the links, then the name. Assumes nothing.
-use Rattle.std.proofs.Common.{sym, ◌∙◌, rules}
-use borrow.Author.Tests.{not-true, not-false}
+use Rattle.std.proofs.Common.{sym, ◌∙◌}
 use Rattle.format.specs.Lookup.{name_inside}
 use Rattle.lookup.proofs.RowLaws.{next-bad, child-bad, child-good}
 use Rattle.lookup.proofs.judge.row_is_good.Goals as goal

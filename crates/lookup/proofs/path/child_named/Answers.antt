@@ -1,13 +1,12 @@
 -- `child_named` meets its contract: the link is a good one of an earlier row, and what is left from it gives what the first link
 -- gives (`Kids`). Measure: the rows ahead of the link. Assumes nothing.
-use borrow.Author.Tests.{not-true, not-false}
-use Rattle.std.proofs.Common.{◌≡◌, ℕ, ◌*◌, ◌<◌, ◌≤◌, true, ◌&&◌, List, length, sym, refl, ◌∙◌, arith}
+use Rattle.std.proofs.Common.{◌≡◌, ℕ, ◌<◌, true, ◌&&◌, List, length, sym, refl, ◌∙◌, arith}
 use Rattle.format.specs.Format.{NONE, node_width}
 use Rattle.format.specs.Rows.{NodeRow, at, nodes_in}
 use Rattle.format.specs.Lookup.{links_good, name_inside}
 use Rattle.lookup.specs.Places.{IsNode, child_from, ChildGives}
-use Rattle.lookup.proofs.RowLaws.{nodes-length, node-read, ahead, fewer-ahead}
-use Rattle.lookup.proofs.PathLaws.{Kids, Kid, kids-begin, kids-none, kids-some, judged-inside, judged-next, kid-here, kid-next, kid-bad}
+use Rattle.lookup.proofs.RowLaws.{nodes-length, node-read, fewer-ahead}
+use Rattle.lookup.proofs.PathLaws.{Kid, kids-begin, kids-none, kids-some, judged-inside, judged-next, kid-here, kid-next, kid-bad}
 use Rattle.lookup.proofs.path.child_named.Goals as goal
 
 pub children-init : goal.children-init
@@ -93,7 +92,7 @@ overflow_cast-row c =
     let KidAt : ℕ → Type 0 = λ row. Kid c.args.s.now rows_of (child_from c.args.s.now rows_of (length rows_of) c.args.first c.args.name.now) c.args.name.now row in
     let kid : KidAt c.children.link = kids-some _ _ _ _ _ c.children.invariant.1 c.if-link.false in
     let below : c.children.link < c.args.count = rw nodes-length at kid.there in
-     omega (arith, below)
+    omega (arith, below)
 
 pub row_is_good-requires : goal.row_is_good-requires
 unfolding NONE
@@ -101,4 +100,4 @@ row_is_good-requires c =
     let rows_of : List NodeRow = nodes_in c.args.count c.args.nodes.now in
     let KidAt : ℕ → Type 0 = λ row. Kid c.args.s.now rows_of (child_from c.args.s.now rows_of (length rows_of) c.args.first c.args.name.now) c.args.name.now row in
     let kid : KidAt c.children.link = kids-some _ _ _ _ _ c.children.invariant.1 c.if-link.false in
-     kid.some
+    kid.some

@@ -1,6 +1,5 @@
 -- `find` meets its contract, by its four returns. Assumes nothing.
-use Rattle.std.proofs.Common.{◌≡◌, true, sym, ◌∙◌, arith, rules}
-use borrow.Author.Tests.{not-true, not-false}
+use Rattle.std.proofs.Common.{◌≡◌, true, sym, ◌∙◌, arith}
 use Rattle.format.specs.Bytes.{part}
 use Rattle.format.specs.Lookup.{usable}
 use Rattle.lookup.specs.Answers.{found_outcome}

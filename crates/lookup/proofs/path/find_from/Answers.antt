@@ -1,6 +1,5 @@
 -- `find_from` meets its contract, by its two returns. Assumes nothing.
-use Rattle.std.proofs.Common.{sym, ◌∙◌, rules}
-use borrow.Author.Tests.{not-true, not-false}
+use Rattle.std.proofs.Common.{sym, ◌∙◌}
 use Rattle.lookup.specs.Answers.{found_outcome}
 use Rattle.lookup.specs.declared.Found.TheVariants.{Unusable}
 use Rattle.lookup.proofs.Outcomes.{found-promise}

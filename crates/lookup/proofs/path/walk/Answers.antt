@@ -1,7 +1,6 @@
 -- `walk` meets its contract: before each part of the path the row is judged, and what is left below it gives the whole answer (`Way`).
 -- Assumes nothing.
-use Rattle.std.proofs.Common.{◌≡◌, ℕ, ◌-◌, ◌≤◌, List, length, sym, refl, ◌∙◌, arith, length-drop, rules}
-use borrow.Author.Tests.{not-true, not-false}
+use Rattle.std.proofs.Common.{◌≡◌, ℕ, ◌-◌, List, length, sym, refl, ◌∙◌, arith, length-drop}
 use Rattle.format.specs.Answer.{Refusal, Outcome, refused}
 use Rattle.format.specs.Bytes.{part}
 use Rattle.format.specs.Find as text

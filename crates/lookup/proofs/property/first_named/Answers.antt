@@ -1,9 +1,6 @@
 -- `first_named` meets its contract: what is left of the rows gives what all of them give. Assumes nothing.
-use Rattle.std.proofs.Common.{◌≡◌, ℕ, ◌+◌, ◌-◌, ◌≤◌, true, leb, List, length, sym, refl, ◌∙◌, arith, rules, leb-true}
-use borrow.Author.Tests.{not-true, not-false}
+use Rattle.std.proofs.Common.{◌≡◌, ℕ, ◌+◌, true, leb, List, length, sym, refl, ◌∙◌, arith, leb-true}
 use Rattle.format.specs.Format.{property_width}
-use Rattle.format.specs.Rows.{properties_in}
-use Rattle.format.specs.Lookup.{among}
 use Rattle.lookup.specs.Answers.{value_outcome}
 use Rattle.lookup.specs.declared.judge.PropertyCells.{PropertyCells}
 use Rattle.lookup.proofs.PropertyLaws.{none_left, bad-name, bad-value, found_here, goes_on}

@@ -1,5 +1,5 @@
 -- `has_prop` meets its contract, as `prop_raw` meets its own. Assumes nothing.
-use Rattle.std.proofs.Common.{sym, refl, rules}
+use Rattle.std.proofs.Common.{sym, refl}
 use Rattle.format.specs.Lookup.{has_prop}
 use Rattle.format.proofs.Answer.{then_ok, then-refused}
 use Rattle.lookup.specs.Answers.{has_outcome}

@@ -1,6 +1,5 @@
 -- `prop_raw` meets its contract, by its four returns. Assumes nothing.
-use Rattle.std.proofs.Common.{◌≡◌, ◌+◌, ◌≤◌, true, leb, sym, ◌∙◌, arith, rules, leb-true}
-use borrow.Author.Tests.{not-true, not-false}
+use Rattle.std.proofs.Common.{◌≡◌, ◌+◌, ◌≤◌, true, leb, sym, ◌∙◌, arith, leb-true}
 use Rattle.format.specs.Format.{node_width, property_width}
 use Rattle.format.specs.Lookup.{usable}
 use Rattle.lookup.specs.Answers.{value_outcome}

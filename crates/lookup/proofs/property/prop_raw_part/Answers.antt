@@ -1,5 +1,5 @@
 -- `prop_raw_part` meets its contract: the part that `prop_raw` tells the place of, which lies in the blob. Assumes nothing.
-use Rattle.std.proofs.Common.{◌+◌, ◌-◌, ◌≤◌, length, arith, rules}
+use Rattle.std.proofs.Common.{◌+◌, ◌-◌, arith}
 use Rattle.format.proofs.Inside.{bytes-there}
 use Rattle.lookup.proofs.Outcomes.{value-part, value-inside}
 use Rattle.lookup.proofs.PropertyLaws.{no_part}

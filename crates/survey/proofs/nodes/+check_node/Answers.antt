@@ -1,16 +1,15 @@
 -- `check_node` meets its contract. The depth falls from call to call. The loop's invariant: what is left of the node from p on, with what
 -- is counted, gives what the whole node gives; its measure is what is left of the blob. Assumes nothing.
 use mathlib.Core.Path.{◌≡◌, sym, ap, ◌∙◌}
-use Prim.Native.Nat.{ℕ, ◌-◌, ◌<◌}
+use Prim.Native.Nat.{◌-◌}
 use native.Mathlib.Omega.{arith}
-use lib.ListN.{length}
 use Rattle.format.specs.Answer.{ok}
 use Rattle.format.specs.Bytes.{AreBytes}
 use Rattle.format.specs.Read.{read_be_u32, node_load}
 use Rattle.reader.proofs.Outcomes.{token-got, token-short}
 use Rattle.survey.specs.Nodes.{block, counted}
 use Rattle.survey.specs.Outcomes.{next_outcome, head_outcome, node_outcome, why_of}
-use Rattle.survey.proofs.CountLaws.{Left, NodeSpan, node-deep, node-no-head, node-head, node-spans, left-past, left-bad-child, left-child, left-bad-end, left-good}
+use Rattle.survey.proofs.CountLaws.{NodeSpan, node-deep, node-no-head, node-head, node-spans, left-past, left-bad-child, left-child, left-bad-end, left-good}
 use Rattle.survey.proofs.nodes.+check_node.Goals as goal
 
 pub returns-then-depth-eq0 : goal.returns-then-depth-eq0
@@ -42,7 +41,7 @@ check_node-requires t c =
 pub overflow_add-n : goal.overflow_add-n
 unfolding AreBytes node_outcome
 overflow_add-n t c =
-    let all : AreBytes c.args.b.now = λ i. (c.shared_slice_known-1.given i).fits in
+    let all : AreBytes c.args.b.now = λ i. (c.type_inv.b i).fits in
     let isChild : let a = c.args in
     counted (node_load a.b.now (block a.strings) (a.depth - 1) c.loop-token.p) ≡ ok c.in-Good-check_node.child = sym c.check_node.ensures ∙ ap node_outcome c.in-Good-check_node.is in
     let span : NodeSpan c.args.b.now c.loop-token.p c.in-Good-check_node.child = node-spans _ _ all _ _ isChild in
@@ -51,7 +50,7 @@ overflow_add-n t c =
 pub overflow_add-k : goal.overflow_add-k
 unfolding AreBytes node_outcome
 overflow_add-k t c =
-    let all : AreBytes c.args.b.now = λ i. (c.shared_slice_known-1.given i).fits in
+    let all : AreBytes c.args.b.now = λ i. (c.type_inv.b i).fits in
     let isChild : let a = c.args in
     counted (node_load a.b.now (block a.strings) (a.depth - 1) c.loop-token.p) ≡ ok c.in-Good-check_node.child = sym c.check_node.ensures ∙ ap node_outcome c.in-Good-check_node.is in
     let span : NodeSpan c.args.b.now c.loop-token.p c.in-Good-check_node.child = node-spans _ _ all _ _ isChild in
@@ -60,7 +59,7 @@ overflow_add-k t c =
 pub loop-token-smaller : goal.loop-token-smaller
 unfolding AreBytes node_outcome
 loop-token-smaller t c =
-    let all : AreBytes c.args.b.now = λ i. (c.shared_slice_known-1.given i).fits in
+    let all : AreBytes c.args.b.now = λ i. (c.type_inv.b i).fits in
     let isChild : let a = c.args in
     counted (node_load a.b.now (block a.strings) (a.depth - 1) c.loop-token.p) ≡ ok c.in-Good-check_node.child = sym c.check_node.ensures ∙ ap node_outcome c.in-Good-check_node.is in
     let span : NodeSpan c.args.b.now c.loop-token.p c.in-Good-check_node.child = node-spans _ _ all _ _ isChild in
@@ -69,7 +68,7 @@ loop-token-smaller t c =
 pub loop-token-preserved : goal.loop-token-preserved
 unfolding AreBytes node_outcome
 loop-token-preserved t c =
-    let all : AreBytes c.args.b.now = λ i. (c.shared_slice_known-1.given i).fits in
+    let all : AreBytes c.args.b.now = λ i. (c.type_inv.b i).fits in
     let is_token : read_be_u32 c.args.b.now c.loop-token.p ≡ ok c.in-Got.token.number = token-got _ c.in-Got.is c.read.ensures in
     let isChild : let a = c.args in
     counted (node_load a.b.now (block a.strings) (a.depth - 1) c.loop-token.p) ≡ ok c.in-Good-check_node.child = sym c.check_node.ensures ∙ ap node_outcome c.in-Good-check_node.is in
