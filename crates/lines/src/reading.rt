@@ -76,7 +76,12 @@ fn last(len: usize) -> Input {
 }
 
 // Goes on to the line's end, or to the end of what is read. Where all of that was taken, reads anew.
-pub fn next(rt: &HostRuntime, buffer: &mut [u8; READ], line: &mut [u8; LINE], from: Input) -> Input {
+pub fn next(
+    rt: &HostRuntime,
+    buffer: &mut [u8; READ],
+    line: &mut [u8; LINE],
+    from: Input,
+) -> Input {
     let len = kept(from);
     let at = from.at;
     let read = from.read;

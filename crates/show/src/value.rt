@@ -45,7 +45,14 @@ fn apart(rt: &HostRuntime, text: &mut [u8; ROOM], out: Output, at: usize) -> Out
 }
 
 // The number at a position: a cell, or the two digits of a byte.
-fn number(rt: &HostRuntime, text: &mut [u8; ROOM], out: Output, v: &[u8], at: usize, width: usize) -> Output
+fn number(
+    rt: &HostRuntime,
+    text: &mut [u8; ROOM],
+    out: Output,
+    v: &[u8],
+    at: usize,
+    width: usize,
+) -> Output
     requires { at < length v.now }
 {
     if width == CELL {
@@ -69,7 +76,15 @@ fn numbers(rt: &HostRuntime, text: &mut [u8; ROOM], from: Output, v: &[u8], widt
 }
 
 // The same between brackets.
-fn listed(rt: &HostRuntime, text: &mut [u8; ROOM], out: Output, v: &[u8], width: usize, first: u8, last: u8) -> Output
+fn listed(
+    rt: &HostRuntime,
+    text: &mut [u8; ROOM],
+    out: Output,
+    v: &[u8],
+    width: usize,
+    first: u8,
+    last: u8,
+) -> Output
     requires { (0 < width) × (width ≤ 4) }
 {
     let begun = text::byte(rt, text, out, first);
@@ -128,7 +143,13 @@ fn assigned(rt: &HostRuntime, text: &mut [u8; ROOM], out: Output, v: &[u8]) -> O
 }
 
 // What a property's name and value come to. An empty value is the name alone.
-pub fn property(rt: &HostRuntime, text: &mut [u8; ROOM], out: Output, name: &[u8], v: &[u8]) -> Output {
+pub fn property(
+    rt: &HostRuntime,
+    text: &mut [u8; ROOM],
+    out: Output,
+    name: &[u8],
+    v: &[u8],
+) -> Output {
     let out = escape::name(rt, text, out, name);
     if v.len() == 0 {
         return text::byte(rt, text, out, b';');
