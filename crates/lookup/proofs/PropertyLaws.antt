@@ -104,7 +104,7 @@ module _ (b nodes : List ℕ) (n : ℕ) (props : List ℕ) (m row : ℕ) (name :
 -- ---- the value itself
 
 -- an answer that tells no part
-pub no_part : (b : List ℕ) (r : Value) (m : Outcome Span) → value_numbers r ≡ numbers place m → (tag_of the_type r ≡ 1) ⊎ (tag_of the_type r ≡ 2) → [] ≡ or_empty (bytes_in b m)
-no_part b (value.Part start len) m e k = absurd (⊎_elim (λ z. omega (arith, z)) (λ z. omega (arith, z)) k)
+pub no_part : (b : List ℕ) (r : Value) (m : Outcome Span) → value_numbers r ≡ numbers place m → ((start len : ℕ) → r ≡ value.Part start len → ⊥) → [] ≡ or_empty (bytes_in b m)
+no_part b (value.Part start len) m e k = absurd (k start len refl)
 no_part b value.Nothing m e k = bytes-none b (value-nothing m e refl)
 no_part b value.Unusable m e k = bytes-none b (value-unusable m e refl)

@@ -1,0 +1,13 @@
+-- `store` meets its contract. The invariant: what is left to store from p on leaves what storing from pos on would have left.
+-- The measure is what is left of the blob. Assumes nothing.
+use Prim.Native.Nat.{◌+◌, ◌-◌, ◌≤◌}
+use native.Mathlib.Omega.{arith}
+use lib.ListN.{length, length-set}
+use Rattle.loader.proofs.StoreLaws.{StoreLeft, store-start, store-inside, store-room, store-last, store-again}
+use Rattle.loader.proofs.reserve.store.Given as goal
+
+abbrev pub invariant-loop-pos : goal.invariant-loop-pos
+invariant-loop-pos l = StoreLeft l.b l.pos l.initial.table l.p l.at l.table
+
+abbrev pub decreases-loop-pos : goal.decreases-loop-pos
+decreases-loop-pos l = length l.b - l.p
