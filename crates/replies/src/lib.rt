@@ -1,5 +1,6 @@
 // An answer as text: its numbers by single spaces.
 #![tactic(auto)]
+
 mod numbers;
 
 use answers::Answer;
