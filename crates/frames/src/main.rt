@@ -1,13 +1,20 @@
 // The differential program: each line of standard input is a frame in hexadecimal, and is answered by one line.
 // Any bytes get an answer. A bad line gives 16, and the next line counts again.
 #![tactic(auto)]
+
 mod reply;
 
 use lines::{Input, LINE};
 use text::{Output, ROOM};
 
 // Where a line is whole it is answered; where it is not, all that was read is taken, and the answers go out.
-fn turn(rt: &HostRuntime, line: &[u8; LINE], input: Input, out: Output, text: &mut [u8; ROOM]) -> Output {
+fn turn(
+    rt: &HostRuntime,
+    line: &[u8; LINE],
+    input: Input,
+    out: Output,
+    text: &mut [u8; ROOM],
+) -> Output {
     if !input.whole {
         return text::flush(rt, text, out);
     }
