@@ -98,7 +98,14 @@ fn start(lines: &[u8], number: u64) -> usize {
 }
 
 // The line of that number without its end, its places filled.
-pub fn part(rt: &HostRuntime, text: &mut [u8; ROOM], from: Output, lines: &[u8], number: u64, n: Numbers) -> Output {
+pub fn part(
+    rt: &HostRuntime,
+    text: &mut [u8; ROOM],
+    from: Output,
+    lines: &[u8],
+    number: u64,
+    n: Numbers,
+) -> Output {
     let mut out = from;
     let mut i = start(lines, number);
     while i < lines.len() {
@@ -113,7 +120,14 @@ pub fn part(rt: &HostRuntime, text: &mut [u8; ROOM], from: Output, lines: &[u8],
 }
 
 // The same with its end.
-pub fn line(rt: &HostRuntime, text: &mut [u8; ROOM], out: Output, lines: &[u8], number: u64, n: Numbers) -> Output {
+pub fn line(
+    rt: &HostRuntime,
+    text: &mut [u8; ROOM],
+    out: Output,
+    lines: &[u8],
+    number: u64,
+    n: Numbers,
+) -> Output {
     let out = part(rt, text, out, lines, number, n);
     text::byte(rt, text, out, b'\n')
 }
@@ -164,7 +178,13 @@ fn later(n: usize) -> u64
     1
 }
 
-pub(crate) fn counted(rt: &HostRuntime, text: &mut [u8; ROOM], out: Output, thing: u64, n: usize) -> Output
+pub(crate) fn counted(
+    rt: &HostRuntime,
+    text: &mut [u8; ROOM],
+    out: Output,
+    thing: u64,
+    n: usize,
+) -> Output
     requires { thing ≤ 6 }
 {
     part(rt, text, out, &COUNTS, thing + later(n), one(n as u64))

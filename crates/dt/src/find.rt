@@ -36,8 +36,21 @@ pub fn row(rt: &HostRuntime, b: &[u8], nodes: &[u32], count: usize) -> Found {
 }
 
 // The line of a node that was found.
-fn line(rt: &HostRuntime, text: &mut [u8; ROOM], row: usize, props: usize, children: usize) -> Output {
-    let out = fill::part(rt, text, text::good(), b"&: row ^", 0, fill::one(row as u64));
+fn line(
+    rt: &HostRuntime,
+    text: &mut [u8; ROOM],
+    row: usize,
+    props: usize,
+    children: usize,
+) -> Output {
+    let out = fill::part(
+        rt,
+        text,
+        text::good(),
+        b"&: row ^",
+        0,
+        fill::one(row as u64),
+    );
     let out = fill::counted(rt, text, out, fill::PROPERTY, props);
     let out = fill::counted(rt, text, out, fill::CHILD, children);
     text::byte(rt, text, out, b'\n')

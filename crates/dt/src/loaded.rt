@@ -10,7 +10,13 @@ fn counts(rt: &HostRuntime, text: &mut [u8; ROOM], out: Output, tree: DeviceTree
 }
 
 // A line: what tells version and boot CPU, and behind it the counts of rows.
-pub fn line(rt: &HostRuntime, text: &mut [u8; ROOM], out: Output, before: &[u8], tree: DeviceTree) -> Output {
+pub fn line(
+    rt: &HostRuntime,
+    text: &mut [u8; ROOM],
+    out: Output,
+    before: &[u8],
+    tree: DeviceTree,
+) -> Output {
     let numbers = fill::two(tree.version as u64, tree.boot_cpuid_phys as u64);
     let out = fill::part(rt, text, out, before, 0, numbers);
     let out = counts(rt, text, out, tree);

@@ -1,5 +1,6 @@
 // dt: a device tree blob on the command line. Answers go to standard output; what goes wrong is one line on standard error.
 #![tactic(auto)]
+
 mod answer;
 mod args;
 mod file;
@@ -33,7 +34,15 @@ const NODE_CELLS: usize = NODES * NODE_WIDTH;
 const PROPERTY_CELLS: usize = PROPERTIES * PROPERTY_WIDTH;
 
 // A tree that was loaded.
-fn of_tree(rt: &HostRuntime, task: Task, b: &[u8], reserved: &[u64], nodes: &[u32], props: &[u32], tree: DeviceTree) {
+fn of_tree(
+    rt: &HostRuntime,
+    task: Task,
+    b: &[u8],
+    reserved: &[u64],
+    nodes: &[u32],
+    props: &[u32],
+    tree: DeviceTree,
+) {
     match task {
         Task::Check => loaded::put(rt, tree),
         Task::Tree => tree::put(rt, b, reserved, nodes, props, tree),

@@ -83,7 +83,13 @@ fn number(rt: &HostRuntime, text: &mut [u8; ROOM], out: Output, got: Numbers) ->
     fill::part(rt, text, out, b"^ ($)", 0, got)
 }
 
-fn shown(rt: &HostRuntime, text: &mut [u8; ROOM], v: &[u8], reading: Reading, got: Numbers) -> Output {
+fn shown(
+    rt: &HostRuntime,
+    text: &mut [u8; ROOM],
+    v: &[u8],
+    reading: Reading,
+    got: Numbers,
+) -> Output {
     let out = text::good();
     match reading {
         Reading::Shown => value::alone(rt, text, out, v),
@@ -112,7 +118,15 @@ fn of_node(rt: &HostRuntime, b: &[u8], nodes: &[u32], props: &[u32], at: At, rea
     good(rt, b, reading, got)
 }
 
-pub fn put(rt: &HostRuntime, b: &[u8], nodes: &[u32], count: usize, props: &[u32], many: usize, reading: Reading) {
+pub fn put(
+    rt: &HostRuntime,
+    b: &[u8],
+    nodes: &[u32],
+    count: usize,
+    props: &[u32],
+    many: usize,
+    reading: Reading,
+) {
     let found = find::row(rt, b, nodes, count);
     match found {
         Found::Row(row) => {

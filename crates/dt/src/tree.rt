@@ -30,14 +30,33 @@ fn list_end(rt: &HostRuntime, text: &mut [u8; ROOM], out: Output, offset: u64) -
     fill::line(rt, text, out, line, 0, fill::one(offset))
 }
 
-fn reservation(rt: &HostRuntime, text: &mut [u8; ROOM], out: Output, offset: u64, size: u64) -> Output {
+fn reservation(
+    rt: &HostRuntime,
+    text: &mut [u8; ROOM],
+    out: Output,
+    offset: u64,
+    size: u64,
+) -> Output {
     if size == 0 {
         return list_end(rt, text, out, offset);
     }
-    fill::line(rt, text, out, b"/memreserve/ $ %;", 0, fill::two(offset, size))
+    fill::line(
+        rt,
+        text,
+        out,
+        b"/memreserve/ $ %;",
+        0,
+        fill::two(offset, size),
+    )
 }
 
-fn reservations(rt: &HostRuntime, text: &mut [u8; ROOM], from: Output, reserved: &[u64], count: usize) -> Output {
+fn reservations(
+    rt: &HostRuntime,
+    text: &mut [u8; ROOM],
+    from: Output,
+    reserved: &[u64],
+    count: usize,
+) -> Output {
     let mut out = from;
     let mut row = 0;
     while row < count {
@@ -171,7 +190,14 @@ fn head(rt: &HostRuntime, text: &mut [u8; ROOM], tree: DeviceTree) -> Output {
     loaded::line(rt, text, out, b"// version ^, boot CPU *", tree)
 }
 
-pub fn put(rt: &HostRuntime, b: &[u8], reserved: &[u64], nodes: &[u32], props: &[u32], tree: DeviceTree) {
+pub fn put(
+    rt: &HostRuntime,
+    b: &[u8],
+    reserved: &[u64],
+    nodes: &[u32],
+    props: &[u32],
+    tree: DeviceTree,
+) {
     let mut text = [0u8; ROOM];
     let out = head(rt, &mut text, tree);
     let out = reservations(rt, &mut text, out, reserved, tree.reserved);

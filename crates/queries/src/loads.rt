@@ -24,7 +24,14 @@ pub fn answer(rt: &HostRuntime, s: &[u8], out: Output, text: &mut [u8; ROOM]) ->
 }
 
 // A load into tables whose every number is 7, and what follows it.
-fn tell(rt: &HostRuntime, b: &[u8], path: &[u8], name: &[u8], out: Output, text: &mut [u8; ROOM]) -> Output {
+fn tell(
+    rt: &HostRuntime,
+    b: &[u8],
+    path: &[u8],
+    name: &[u8],
+    out: Output,
+    text: &mut [u8; ROOM],
+) -> Output {
     let mut reserved = [7u64; RESERVATIONS];
     let mut nodes = [7u32; NODES];
     let mut props = [7u32; PROPERTIES];

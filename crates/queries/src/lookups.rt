@@ -74,7 +74,12 @@ pub fn all(b: &[u8], nodes: &[u32], props: &[u32], at: Rows, path: &[u8], name: 
 }
 
 // The five answers, as parts that follow others.
-pub fn put_property(rt: &HostRuntime, text: &mut [u8; ROOM], out: Output, found: Property) -> Output {
+pub fn put_property(
+    rt: &HostRuntime,
+    text: &mut [u8; ROOM],
+    out: Output,
+    found: Property,
+) -> Output {
     let has = found.has;
     let raw = found.raw;
     let string = found.string;

@@ -1,6 +1,7 @@
 // Answers each line of standard input by one line: a letter names a call, the fields after it are what it is asked.
 // Any bytes get an answer. A bad line gives 16, and the next line counts again.
 #![tactic(auto)]
+
 mod given;
 mod loads;
 mod lookups;
@@ -27,7 +28,13 @@ fn answer(rt: &HostRuntime, line: &[u8], out: Output, text: &mut [u8; ROOM]) -> 
 }
 
 // Where a line is whole it is answered; where it is not, all that was read is taken, and the answers go out.
-fn turn(rt: &HostRuntime, line: &[u8; LINE], input: Input, out: Output, text: &mut [u8; ROOM]) -> Output {
+fn turn(
+    rt: &HostRuntime,
+    line: &[u8; LINE],
+    input: Input,
+    out: Output,
+    text: &mut [u8; ROOM],
+) -> Output {
     if !input.whole {
         return text::flush(rt, text, out);
     }

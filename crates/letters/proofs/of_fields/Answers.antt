@@ -2,7 +2,6 @@
 use native.Mathlib.Omega.{arith}
 use mathlib.Core.Path.{◌∙◌}
 use Rattle.answers.specs.Answers.{answer_numbers}
-use Rattle.letters.specs.Replies.{read_reply}
 use Rattle.letters.proofs.ReplyLaws.{fields-part, fields-position, number-bad, number_is}
 use Rattle.letters.proofs.of_fields.Goals as goal
 
