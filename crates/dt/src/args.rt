@@ -1,5 +1,6 @@
 // The words of the command line. Each is asked for where it is used: no buffer is handed about.
 use crate::{fill, help};
+use std::env::{Env, FillError};
 
 // Where they stand. The program's own name is word 0.
 pub const COMMAND: usize = 1;
@@ -38,6 +39,9 @@ pub enum Asked {
     Help,
     Nonsense { line: u64, place: u64 },
 }
+
+// One more than the words of any command line that makes sense.
+const MANY: usize = READING + 2;
 
 // The commands, a line each.
 const COMMANDS: [u8; 36] = *b"check\ntree\nfind\nprop\nhelp\n--help\n-h\n";
@@ -87,18 +91,44 @@ fn line_of(lines: &[u8], word: &[u8]) -> u64 {
     line
 }
 
+// The bytes of the word at that place, put at the start of the room: none where there is no such word, or one with more bytes.
+pub fn word(rt: &HostRuntime, place: usize, room: &mut [u8]) -> usize {
+    rt.arg(place, room).unwrap_or(0)
+}
+
 // The line that the word at that place is.
-fn which(place: usize, lines: &[u8]) -> u64 {
+fn which(rt: &HostRuntime, place: usize, lines: &[u8]) -> u64 {
     let mut room = io::buffer();
-    let n = os::arg(place, &mut room);
+    let n = word(rt, place, &mut room);
     line_of(lines, text::upto(&room, n))
 }
 
 // Whether the word at that place has more bytes than a buffer.
-fn too_long(place: usize) -> bool {
+fn too_long(rt: &HostRuntime, place: usize) -> bool {
     let mut room = io::buffer();
-    os::arg(place, &mut room);
-    os::errno() == libc::ENAMETOOLONG
+    match rt.arg(place, &mut room) {
+        Err(FillError::TooLong) => true,
+        _ => false,
+    }
+}
+
+// Whether there is no word at that place.
+fn missing(rt: &HostRuntime, place: usize) -> bool {
+    let mut room = io::buffer();
+    match rt.arg(place, &mut room) {
+        Err(FillError::NotPresent) => true,
+        _ => false,
+    }
+}
+
+// How many words there are, the program's own name among them; `MANY` where there are more.
+fn count(rt: &HostRuntime) -> usize {
+    for place in 0..MANY {
+        if missing(rt, place) {
+            return place;
+        }
+    }
+    MANY
 }
 
 fn usage(line: u64) -> Asked {
@@ -113,25 +143,25 @@ fn long(place: usize) -> Asked {
 }
 
 // A task with the words that it wants, unless one of them is too long.
-fn worded(task: Task) -> Asked {
-    if too_long(FILE) {
+fn worded(rt: &HostRuntime, task: Task) -> Asked {
+    if too_long(rt, FILE) {
         return long(FILE);
     }
-    if too_long(PATH) {
+    if too_long(rt, PATH) {
         return long(PATH);
     }
-    if too_long(NAME) {
+    if too_long(rt, NAME) {
         return long(NAME);
     }
     Asked::For(task)
 }
 
 // A task of so many words, if there are so many.
-fn counted(task: Task, words: usize, count: usize, line: u64) -> Asked {
+fn counted(rt: &HostRuntime, task: Task, words: usize, count: usize, line: u64) -> Asked {
     if count != words {
         return usage(line);
     }
-    worded(task)
+    worded(rt, task)
 }
 
 fn reading_of(line: u64) -> Reading {
@@ -145,39 +175,39 @@ fn reading_of(line: u64) -> Reading {
 }
 
 // How a property is to be read is the last word, if it is there.
-fn prop(count: usize) -> Asked {
+fn prop(rt: &HostRuntime, count: usize) -> Asked {
     if count != READING + 1 {
-        return counted(Task::Prop(Reading::Shown), NAME + 1, count, help::PROP);
+        return counted(rt, Task::Prop(Reading::Shown), NAME + 1, count, help::PROP);
     }
-    if too_long(READING) {
+    if too_long(rt, READING) {
         return long(READING);
     }
-    let line = which(READING, &READINGS);
+    let line = which(rt, READING, &READINGS);
     if line == UNKNOWN_READING {
         return usage(help::PROP);
     }
-    worded(Task::Prop(reading_of(line)))
+    worded(rt, Task::Prop(reading_of(line)))
 }
 
 // A command by its line, with so many words.
-fn command(line: u64, count: usize) -> Asked {
+fn command(rt: &HostRuntime, line: u64, count: usize) -> Asked {
     match line {
-        0 => counted(Task::Check, FILE + 1, count, help::CHECK),
-        1 => counted(Task::Tree, FILE + 1, count, help::TREE),
-        2 => counted(Task::Find, PATH + 1, count, help::FIND),
-        3 => prop(count),
+        0 => counted(rt, Task::Check, FILE + 1, count, help::CHECK),
+        1 => counted(rt, Task::Tree, FILE + 1, count, help::TREE),
+        2 => counted(rt, Task::Find, PATH + 1, count, help::FIND),
+        3 => prop(rt, count),
         4..=6 => Asked::Help,
         _ => usage(help::UNKNOWN),
     }
 }
 
-pub fn get() -> Asked {
-    let count = os::arg_count();
+pub fn get(rt: &HostRuntime) -> Asked {
+    let count = count(rt);
     if count <= COMMAND {
         return usage(help::ANY);
     }
-    if too_long(COMMAND) {
+    if too_long(rt, COMMAND) {
         return long(COMMAND);
     }
-    command(which(COMMAND, &COMMANDS), count)
+    command(rt, which(rt, COMMAND, &COMMANDS), count)
 }

@@ -27,10 +27,10 @@ pub fn two(first: u64, second: u64) -> Numbers {
 }
 
 // A word of the command line.
-fn word(text: &mut [u8; ROOM], out: Output, place: usize) -> Output {
+fn word(rt: &HostRuntime, text: &mut [u8; ROOM], out: Output, place: usize) -> Output {
     let mut room = io::buffer();
-    let n = os::arg(place, &mut room);
-    escape::line(text, out, text::upto(&room, n))
+    let n = args::word(rt, place, &mut room);
+    escape::line(rt, text, out, text::upto(&room, n))
 }
 
 // What stands for a byte of a line.
@@ -64,12 +64,12 @@ fn hex(n: u64, digits: usize) -> Place {
     Place::Hex { n, digits }
 }
 
-fn put(text: &mut [u8; ROOM], out: Output, c: u8, place: Place) -> Output {
+fn put(rt: &HostRuntime, text: &mut [u8; ROOM], out: Output, c: u8, place: Place) -> Output {
     match place {
-        Place::Word(at) => word(text, out, at),
-        Place::Number(n) => text::number(text, out, n),
-        Place::Hex { n, digits } => text::hex(text, out, n, digits),
-        Place::Itself => text::byte(text, out, c),
+        Place::Word(at) => word(rt, text, out, at),
+        Place::Number(n) => text::number(rt, text, out, n),
+        Place::Hex { n, digits } => text::hex(rt, text, out, n, digits),
+        Place::Itself => text::byte(rt, text, out, c),
     }
 }
 
@@ -98,7 +98,14 @@ fn start(lines: &[u8], number: u64) -> usize {
 }
 
 // The line of that number without its end, its places filled.
-pub fn part(text: &mut [u8; ROOM], from: Output, lines: &[u8], number: u64, n: Numbers) -> Output {
+pub fn part(
+    rt: &HostRuntime,
+    text: &mut [u8; ROOM],
+    from: Output,
+    lines: &[u8],
+    number: u64,
+    n: Numbers,
+) -> Output {
     let mut out = from;
     let mut i = start(lines, number);
     while i < lines.len() {
@@ -106,31 +113,38 @@ pub fn part(text: &mut [u8; ROOM], from: Output, lines: &[u8], number: u64, n: N
         if c == b'\n' {
             return out;
         }
-        out = put(text, out, c, place_of(c, n));
+        out = put(rt, text, out, c, place_of(c, n));
         i += 1;
     }
     out
 }
 
 // The same with its end.
-pub fn line(text: &mut [u8; ROOM], out: Output, lines: &[u8], number: u64, n: Numbers) -> Output {
-    let out = part(text, out, lines, number, n);
-    text::byte(text, out, b'\n')
+pub fn line(
+    rt: &HostRuntime,
+    text: &mut [u8; ROOM],
+    out: Output,
+    lines: &[u8],
+    number: u64,
+    n: Numbers,
+) -> Output {
+    let out = part(rt, text, out, lines, number, n);
+    text::byte(rt, text, out, b'\n')
 }
 
 // A line for standard error: the first of those, with which they all begin, and the one of that number.
-pub fn wrong(lines: &[u8], number: u64, n: Numbers) {
+pub fn wrong(rt: &HostRuntime, lines: &[u8], number: u64, n: Numbers) {
     let mut text = [0u8; ROOM];
-    let out = part(&mut text, text::wrong(), lines, 0, n);
-    let out = line(&mut text, out, lines, number, n);
-    text::flush(&text, out);
+    let out = part(rt, &mut text, text::wrong(), lines, 0, n);
+    let out = line(rt, &mut text, out, lines, number, n);
+    text::flush(rt, &text, out);
 }
 
 // Hands out what waits, and tells where that cannot be done.
-pub fn done(text: &[u8; ROOM], out: Output) {
-    let told = text::flush(text, out);
+pub fn done(rt: &HostRuntime, text: &[u8; ROOM], out: Output) {
+    let told = text::flush(rt, text, out);
     if !told.works {
-        wrong(b"dt\n: standard output cannot be written\n", 1, one(0));
+        wrong(rt, b"dt\n: standard output cannot be written\n", 1, one(0));
     }
 }
 
@@ -164,8 +178,14 @@ fn later(n: usize) -> u64
     1
 }
 
-pub(crate) fn counted(text: &mut [u8; ROOM], out: Output, thing: u64, n: usize) -> Output
+pub(crate) fn counted(
+    rt: &HostRuntime,
+    text: &mut [u8; ROOM],
+    out: Output,
+    thing: u64,
+    n: usize,
+) -> Output
     requires { thing ≤ 6 }
 {
-    part(text, out, &COUNTS, thing + later(n), one(n as u64))
+    part(rt, text, out, &COUNTS, thing + later(n), one(n as u64))
 }

@@ -28,8 +28,8 @@ pub const UNKNOWN: u64 = 6;
 
 pub const LONG: u64 = 7;
 
-pub fn wrong(line: u64, place: u64) {
-    fill::wrong(&NONSENSE, line, fill::one(place))
+pub fn wrong(rt: &HostRuntime, line: u64, place: u64) {
+    fill::wrong(rt, &NONSENSE, line, fill::one(place))
 }
 
 // What the commands do, and how they show what they find.
@@ -66,9 +66,10 @@ What goes wrong is one line on standard error. The exit status of ./dt is then 1
 the command line makes no sense; else 0.
 ";
 
-fn limits(text: &mut [u8; ROOM], out: Output) -> Output {
+fn limits(rt: &HostRuntime, text: &mut [u8; ROOM], out: Output) -> Output {
     let lines = &LIMITS;
     let out = fill::part(
+        rt,
         text,
         out,
         lines,
@@ -76,27 +77,28 @@ fn limits(text: &mut [u8; ROOM], out: Output) -> Output {
         fill::two(BLOB as u64, RESERVATIONS as u64),
     );
     let out = fill::line(
+        rt,
         text,
         out,
         lines,
         1,
         fill::two(NODES as u64, PROPERTIES as u64),
     );
-    fill::line(text, out, lines, 2, fill::one(DEPTH as u64))
+    fill::line(rt, text, out, lines, 2, fill::one(DEPTH as u64))
 }
 
-fn commands(text: &mut [u8; ROOM], out: Output) -> Output {
-    text::bytes(text, out, &COMMANDS)
+fn commands(rt: &HostRuntime, text: &mut [u8; ROOM], out: Output) -> Output {
+    text::bytes(rt, text, out, &COMMANDS)
 }
 
-fn status(text: &mut [u8; ROOM], out: Output) -> Output {
-    text::bytes(text, out, &STATUS)
+fn status(rt: &HostRuntime, text: &mut [u8; ROOM], out: Output) -> Output {
+    text::bytes(rt, text, out, &STATUS)
 }
 
-pub fn put() {
+pub fn put(rt: &HostRuntime) {
     let mut text = [0u8; ROOM];
-    let out = commands(&mut text, text::good());
-    let out = limits(&mut text, out);
-    let out = status(&mut text, out);
-    fill::done(&text, out)
+    let out = commands(rt, &mut text, text::good());
+    let out = limits(rt, &mut text, out);
+    let out = status(rt, &mut text, out);
+    fill::done(rt, &text, out)
 }

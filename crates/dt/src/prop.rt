@@ -43,13 +43,13 @@ fn width(reading: Reading) -> u64 {
     }
 }
 
-fn wrong(code: u64, reading: Reading) {
+fn wrong(rt: &HostRuntime, code: u64, reading: Reading) {
     let n = Numbers {
         code,
         first: width(reading),
         second: 0,
     };
-    fill::wrong(&REASONS, code, n)
+    fill::wrong(rt, &REASONS, code, n)
 }
 
 fn ask(b: &[u8], nodes: &[u32], props: &[u32], at: At, name: &[u8], reading: Reading) -> Answer {
@@ -79,41 +79,55 @@ fn part(b: &[u8], got: Numbers) -> &[u8] {
 }
 
 // A number, in decimal and in hexadecimal.
-fn number(text: &mut [u8; ROOM], out: Output, got: Numbers) -> Output {
-    fill::part(text, out, b"^ ($)", 0, got)
+fn number(rt: &HostRuntime, text: &mut [u8; ROOM], out: Output, got: Numbers) -> Output {
+    fill::part(rt, text, out, b"^ ($)", 0, got)
 }
 
-fn shown(text: &mut [u8; ROOM], v: &[u8], reading: Reading, got: Numbers) -> Output {
+fn shown(
+    rt: &HostRuntime,
+    text: &mut [u8; ROOM],
+    v: &[u8],
+    reading: Reading,
+    got: Numbers,
+) -> Output {
     let out = text::good();
     match reading {
-        Reading::Shown => value::alone(text, out, v),
-        Reading::Raw => value::pairs(text, out, v),
-        Reading::Str => escape::line(text, out, v),
-        _ => number(text, out, got),
+        Reading::Shown => value::alone(rt, text, out, v),
+        Reading::Raw => value::pairs(rt, text, out, v),
+        Reading::Str => escape::line(rt, text, out, v),
+        _ => number(rt, text, out, got),
     }
 }
 
-fn good(b: &[u8], reading: Reading, got: Numbers) {
+fn good(rt: &HostRuntime, b: &[u8], reading: Reading, got: Numbers) {
     let mut text = [0u8; ROOM];
-    let out = shown(&mut text, part(b, got), reading, got);
-    let out = text::byte(&mut text, out, b'\n');
-    fill::done(&text, out)
+    let out = shown(rt, &mut text, part(b, got), reading, got);
+    let out = text::byte(rt, &mut text, out, b'\n');
+    fill::done(rt, &text, out)
 }
 
 // The property of the node at that row.
-fn of_node(b: &[u8], nodes: &[u32], props: &[u32], at: At, reading: Reading) {
+fn of_node(rt: &HostRuntime, b: &[u8], nodes: &[u32], props: &[u32], at: At, reading: Reading) {
     let mut room = io::buffer();
-    let n = os::arg(args::NAME, &mut room);
+    let n = args::word(rt, args::NAME, &mut room);
     let name = text::upto(&room, n);
     let got = answer::numbers(ask(b, nodes, props, at, name, reading));
     if got.code != 0 {
-        return wrong(got.code, reading);
+        return wrong(rt, got.code, reading);
     }
-    good(b, reading, got)
+    good(rt, b, reading, got)
 }
 
-pub fn put(b: &[u8], nodes: &[u32], count: usize, props: &[u32], many: usize, reading: Reading) {
-    let found = find::row(b, nodes, count);
+pub fn put(
+    rt: &HostRuntime,
+    b: &[u8],
+    nodes: &[u32],
+    count: usize,
+    props: &[u32],
+    many: usize,
+    reading: Reading,
+) {
+    let found = find::row(rt, b, nodes, count);
     match found {
         Found::Row(row) => {
             let at = At {
@@ -121,8 +135,8 @@ pub fn put(b: &[u8], nodes: &[u32], count: usize, props: &[u32], many: usize, re
                 props: many,
                 row,
             };
-            of_node(b, nodes, props, at, reading)
+            of_node(rt, b, nodes, props, at, reading)
         }
-        _ => find::wrong(found),
+        _ => find::wrong(rt, found),
     }
 }

@@ -51,12 +51,12 @@ fn second(b: &[u8], why: DeviceTreeError) -> u64 {
 }
 
 // A blob that is not loaded.
-pub fn refused(b: &[u8], why: DeviceTreeError) {
+pub fn refused(rt: &HostRuntime, b: &[u8], why: DeviceTreeError) {
     let n = answer::numbers(answers::of_refusal(why));
     let told = Numbers {
         code: n.code,
         first: first(b, why, n.first),
         second: second(b, why),
     };
-    fill::wrong(&REASONS, n.code, told)
+    fill::wrong(rt, &REASONS, n.code, told)
 }

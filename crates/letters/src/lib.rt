@@ -1,5 +1,6 @@
 // The readers' lines: a letter names the reader, the fields after it are what it is asked, and the answer is the reader's.
 #![tactic(auto)]
+
 ghost use Rattle.std.specs.Prelude.{◌≡◌};
 ghost use Rattle.answers.specs.Answers.{answer_numbers};
 ghost use Rattle.lines.specs.Fields.{first_of, rest_of, number_of};

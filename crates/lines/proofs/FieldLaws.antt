@@ -12,7 +12,6 @@ use Rattle.format.specs.Answer.{or_zero}
 use Rattle.format.specs.Read.{read_be_u32}
 use borrow.Author.Rules.{part_to_end}
 use Rattle.lines.specs.Fields.{digit_of, first_of, rest_of, number_from, number_of, before, pair_of, pairs_of, hex_of, bytes_of, words_in, gathered, gathered_of, words_of, letter_of, many, put_by, Put}
-use Rattle.lines.specs.declared.Number.{Number}
 use Rattle.lines.specs.declared.Number.TheVariants as number
 use Rattle.lines.specs.declared.Count.{Count}
 use Rattle.lines.specs.declared.Count.TheVariants as count

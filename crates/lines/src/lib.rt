@@ -1,6 +1,7 @@
 // The lines of the line programs: gathered from what single reads gave, the fields of a line, and what a field spells.
 // Any bytes get an answer.
 #![tactic(auto)]
+
 mod fields;
 mod reading;
 mod spelled;

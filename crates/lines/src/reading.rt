@@ -1,6 +1,6 @@
 // The lines of standard input, gathered from what single reads gave.
 use crate::{Input, LINE, READ};
-use libc::STDIN_FILENO;
+use std::io::Read;
 use text::{Output, ROOM};
 
 // Nothing is read yet.
@@ -15,9 +15,9 @@ pub fn start() -> Input {
 }
 
 // One read: how many bytes it gave. The end of the input, and a call that fails, give none.
-fn more(buffer: &mut [u8; READ]) -> usize {
-    let got = libc::read(STDIN_FILENO, buffer);
-    io::count(got, buffer)
+fn more(rt: &HostRuntime, buffer: &mut [u8; READ]) -> usize {
+    let mut input = rt.stdin();
+    input.read(buffer).unwrap_or(0)
 }
 
 // A byte more of the line, which keeps what it has where it is full.
@@ -76,14 +76,19 @@ fn last(len: usize) -> Input {
 }
 
 // Goes on to the line's end, or to the end of what is read. Where all of that was taken, reads anew.
-pub fn next(buffer: &mut [u8; READ], line: &mut [u8; LINE], from: Input) -> Input {
+pub fn next(
+    rt: &HostRuntime,
+    buffer: &mut [u8; READ],
+    line: &mut [u8; LINE],
+    from: Input,
+) -> Input {
     let len = kept(from);
     let at = from.at;
     let read = from.read;
     if at < read {
         return take(text::upto(buffer, read), at, line, len);
     }
-    let read = more(buffer);
+    let read = more(rt, buffer);
     if read == 0 {
         return last(len);
     }
@@ -91,10 +96,10 @@ pub fn next(buffer: &mut [u8; READ], line: &mut [u8; LINE], from: Input) -> Inpu
 }
 
 // The line end of an answer. Where all that was read is taken, the answers go out.
-pub fn finish(text: &mut [u8; ROOM], out: Output, input: Input) -> Output {
-    let ended = text::byte(text, out, b'\n');
+pub fn finish(rt: &HostRuntime, text: &mut [u8; ROOM], out: Output, input: Input) -> Output {
+    let ended = text::byte(rt, text, out, b'\n');
     if input.at < input.read {
         return ended;
     }
-    text::flush(text, ended)
+    text::flush(rt, text, ended)
 }

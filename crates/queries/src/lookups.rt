@@ -74,31 +74,36 @@ pub fn all(b: &[u8], nodes: &[u32], props: &[u32], at: Rows, path: &[u8], name: 
 }
 
 // The five answers, as parts that follow others.
-pub fn put_property(text: &mut [u8; ROOM], out: Output, found: Property) -> Output {
+pub fn put_property(
+    rt: &HostRuntime,
+    text: &mut [u8; ROOM],
+    out: Output,
+    found: Property,
+) -> Output {
     let has = found.has;
     let raw = found.raw;
     let string = found.string;
     let word = found.word;
     let long = found.long;
-    let told = replies::further(text, out, has);
-    let told = replies::further(text, told, raw);
-    let told = replies::further(text, told, string);
-    let told = replies::further(text, told, word);
-    replies::further(text, told, long)
+    let told = replies::further(rt, text, out, has);
+    let told = replies::further(rt, text, told, raw);
+    let told = replies::further(rt, text, told, string);
+    let told = replies::further(rt, text, told, word);
+    replies::further(rt, text, told, long)
 }
 
 // All of it, or 16 for a bad line.
-pub fn put(text: &mut [u8; ROOM], out: Output, looked: Looked) -> Output {
+pub fn put(rt: &HostRuntime, text: &mut [u8; ROOM], out: Output, looked: Looked) -> Output {
     match looked {
-        Looked::Bad => replies::put(text, out, Answer::Alone(lines::BAD)),
+        Looked::Bad => replies::put(rt, text, out, Answer::Alone(lines::BAD)),
         Looked::Found {
             tree,
             from,
             property,
         } => {
-            let first = replies::put(text, out, tree);
-            let second = replies::further(text, first, from);
-            put_property(text, second, property)
+            let first = replies::put(rt, text, out, tree);
+            let second = replies::further(rt, text, first, from);
+            put_property(rt, text, second, property)
         }
     }
 }

@@ -33,30 +33,30 @@ fn least(rows: usize, most: usize) -> usize
 }
 
 // Begins a part of an answer that tells so many numbers: `-` where there are none.
-fn begin(text: &mut [u8; ROOM], from: Output, count: usize) -> Output {
-    let out = replies::part(text, from);
+fn begin(rt: &HostRuntime, text: &mut [u8; ROOM], from: Output, count: usize) -> Output {
+    let out = replies::part(rt, text, from);
     if count == 0 {
-        return text::bytes(text, out, b" -");
+        return text::bytes(rt, text, out, b" -");
     }
     out
 }
 
 // All numbers of a table, each after a space.
-fn put_longs(text: &mut [u8; ROOM], from: Output, table: &[u64]) -> Output {
-    let mut out = begin(text, from, table.len());
+fn put_longs(rt: &HostRuntime, text: &mut [u8; ROOM], from: Output, table: &[u64]) -> Output {
+    let mut out = begin(rt, text, from, table.len());
     let mut i = 0;
     while i < table.len() {
-        out = text::value(text, out, table[i]);
+        out = text::value(rt, text, out, table[i]);
         i += 1;
     }
     out
 }
 
-fn put_words(text: &mut [u8; ROOM], from: Output, table: &[u32]) -> Output {
-    let mut out = begin(text, from, table.len());
+fn put_words(rt: &HostRuntime, text: &mut [u8; ROOM], from: Output, table: &[u32]) -> Output {
+    let mut out = begin(rt, text, from, table.len());
     let mut i = 0;
     while i < table.len() {
-        out = text::value(text, out, text::word(table[i]));
+        out = text::value(rt, text, out, text::word(table[i]));
         i += 1;
     }
     out
@@ -64,6 +64,7 @@ fn put_words(text: &mut [u8; ROOM], from: Output, table: &[u32]) -> Output {
 
 // The used rows of each table.
 fn put_rows(
+    rt: &HostRuntime,
     text: &mut [u8; ROOM],
     out: Output,
     tree: DeviceTree,
@@ -74,13 +75,14 @@ fn put_rows(
     let reservation_numbers = least(tree.reserved, RESERVATION_ROWS) * RESERVATION_WIDTH;
     let node_numbers = least(tree.nodes, NODE_ROWS) * NODE_WIDTH;
     let property_numbers = least(tree.props, PROPERTY_ROWS) * PROPERTY_WIDTH;
-    let told = put_longs(text, out, longs_upto(reserved, reservation_numbers));
-    let told = put_words(text, told, upto(nodes, node_numbers));
-    put_words(text, told, upto(props, property_numbers))
+    let told = put_longs(rt, text, out, longs_upto(reserved, reservation_numbers));
+    let told = put_words(rt, text, told, upto(nodes, node_numbers));
+    put_words(rt, text, told, upto(props, property_numbers))
 }
 
 // A load's answer, and where it is 0 the used rows.
 pub fn put(
+    rt: &HostRuntime,
     text: &mut [u8; ROOM],
     out: Output,
     loaded: Loaded,
@@ -88,9 +90,9 @@ pub fn put(
     nodes: &[u32],
     props: &[u32],
 ) -> Output {
-    let told = replies::put(text, out, answers::of_load(loaded));
+    let told = replies::put(rt, text, out, answers::of_load(loaded));
     match loaded {
         Loaded::Refused(_) => told,
-        Loaded::Tree(tree) => put_rows(text, told, tree, reserved, nodes, props),
+        Loaded::Tree(tree) => put_rows(rt, text, told, tree, reserved, nodes, props),
     }
 }

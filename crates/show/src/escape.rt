@@ -66,54 +66,54 @@ fn how_of(bytes: Bytes, b: u8) -> Shown {
     }
 }
 
-fn number(text: &mut [u8; ROOM], out: Output, b: u8) -> Output {
-    let begun = text::byte(text, out, b'\\');
-    let begun = text::byte(text, begun, b'x');
-    text::digits(text, begun, text::short(b), 2)
+fn number(rt: &HostRuntime, text: &mut [u8; ROOM], out: Output, b: u8) -> Output {
+    let begun = text::byte(rt, text, out, b'\\');
+    let begun = text::byte(rt, text, begun, b'x');
+    text::digits(rt, text, begun, text::short(b), 2)
 }
 
-fn put(text: &mut [u8; ROOM], out: Output, b: u8, how: Shown) -> Output {
+fn put(rt: &HostRuntime, text: &mut [u8; ROOM], out: Output, b: u8, how: Shown) -> Output {
     match how {
-        Shown::Plain => text::byte(text, out, b),
+        Shown::Plain => text::byte(rt, text, out, b),
         Shown::Behind => {
-            let begun = text::byte(text, out, b'\\');
-            text::byte(text, begun, b)
+            let begun = text::byte(rt, text, out, b'\\');
+            text::byte(rt, text, begun, b)
         }
-        Shown::Number => number(text, out, b),
-        Shown::Between => text::bytes(text, out, b"\", \""),
+        Shown::Number => number(rt, text, out, b),
+        Shown::Between => text::bytes(rt, text, out, b"\", \""),
     }
 }
 
-fn all(text: &mut [u8; ROOM], from: Output, s: &[u8], bytes: Bytes) -> Output {
+fn all(rt: &HostRuntime, text: &mut [u8; ROOM], from: Output, s: &[u8], bytes: Bytes) -> Output {
     let mut out = from;
     let mut i = 0;
     while i < s.len() {
         let b = s[i];
-        out = put(text, out, b, how_of(bytes, b));
+        out = put(rt, text, out, b, how_of(bytes, b));
         i += 1;
     }
     out
 }
 
 // Bytes in a line: a file, a path, a text.
-pub fn line(text: &mut [u8; ROOM], out: Output, s: &[u8]) -> Output {
-    all(text, out, s, Bytes::Line)
+pub fn line(rt: &HostRuntime, text: &mut [u8; ROOM], out: Output, s: &[u8]) -> Output {
+    all(rt, text, out, s, Bytes::Line)
 }
 
 // The name of a node or a property.
-pub fn name(text: &mut [u8; ROOM], out: Output, s: &[u8]) -> Output {
+pub fn name(rt: &HostRuntime, text: &mut [u8; ROOM], out: Output, s: &[u8]) -> Output {
     if s.len() == 0 {
-        return text::bytes(text, out, b"/* no name */");
+        return text::bytes(rt, text, out, b"/* no name */");
     }
-    all(text, out, s, Bytes::Name)
+    all(rt, text, out, s, Bytes::Name)
 }
 
 // A list of strings, of which a zero ends each, between quotation marks.
-pub fn strings(text: &mut [u8; ROOM], out: Output, s: &[u8]) -> Output {
+pub fn strings(rt: &HostRuntime, text: &mut [u8; ROOM], out: Output, s: &[u8]) -> Output {
     if s.len() == 0 {
         return out;
     }
-    let begun = text::byte(text, out, b'"');
-    let told = all(text, begun, text::upto(s, s.len() - 1), Bytes::Strings);
-    text::byte(text, told, b'"')
+    let begun = text::byte(rt, text, out, b'"');
+    let told = all(rt, text, begun, text::upto(s, s.len() - 1), Bytes::Strings);
+    text::byte(rt, text, told, b'"')
 }

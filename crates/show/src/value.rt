@@ -37,101 +37,122 @@ fn is_text(v: &[u8]) -> bool {
 }
 
 // A space before all but the first of a row of things.
-fn apart(text: &mut [u8; ROOM], out: Output, at: usize) -> Output {
+fn apart(rt: &HostRuntime, text: &mut [u8; ROOM], out: Output, at: usize) -> Output {
     if at == 0 {
         return out;
     }
-    text::byte(text, out, b' ')
+    text::byte(rt, text, out, b' ')
 }
 
 // The number at a position: a cell, or the two digits of a byte.
-fn number(text: &mut [u8; ROOM], out: Output, v: &[u8], at: usize, width: usize) -> Output
+fn number(
+    rt: &HostRuntime,
+    text: &mut [u8; ROOM],
+    out: Output,
+    v: &[u8],
+    at: usize,
+    width: usize,
+) -> Output
     requires { at < length v.now }
 {
     if width == CELL {
-        return text::hex(text, out, text::word(reader::word_at(v, at)), 8);
+        return text::hex(rt, text, out, text::word(reader::word_at(v, at)), 8);
     }
-    text::digits(text, out, text::short(v[at]), 2)
+    text::digits(rt, text, out, text::short(v[at]), 2)
 }
 
 // A value's numbers, each of so many bytes.
-fn numbers(text: &mut [u8; ROOM], from: Output, v: &[u8], width: usize) -> Output
+fn numbers(rt: &HostRuntime, text: &mut [u8; ROOM], from: Output, v: &[u8], width: usize) -> Output
     requires { (0 < width) × (width ≤ 4) }
 {
     let mut out = from;
     let mut at = 0;
     while at < v.len() {
-        let next = apart(text, out, at);
-        out = number(text, next, v, at, width);
+        let next = apart(rt, text, out, at);
+        out = number(rt, text, next, v, at, width);
         at += width;
     }
     out
 }
 
 // The same between brackets.
-fn listed(text: &mut [u8; ROOM], out: Output, v: &[u8], width: usize, first: u8, last: u8) -> Output
+fn listed(
+    rt: &HostRuntime,
+    text: &mut [u8; ROOM],
+    out: Output,
+    v: &[u8],
+    width: usize,
+    first: u8,
+    last: u8,
+) -> Output
     requires { (0 < width) × (width ≤ 4) }
 {
-    let begun = text::byte(text, out, first);
-    let told = numbers(text, begun, v, width);
-    text::byte(text, told, last)
+    let begun = text::byte(rt, text, out, first);
+    let told = numbers(rt, text, begun, v, width);
+    text::byte(rt, text, told, last)
 }
 
-fn cells(text: &mut [u8; ROOM], out: Output, v: &[u8]) -> Output {
-    listed(text, out, v, CELL, b'<', b'>')
+fn cells(rt: &HostRuntime, text: &mut [u8; ROOM], out: Output, v: &[u8]) -> Output {
+    listed(rt, text, out, v, CELL, b'<', b'>')
 }
 
-fn put(text: &mut [u8; ROOM], out: Output, v: &[u8], is_text: bool) -> Output {
+fn put(rt: &HostRuntime, text: &mut [u8; ROOM], out: Output, v: &[u8], is_text: bool) -> Output {
     if is_text {
-        return escape::strings(text, out, v);
+        return escape::strings(rt, text, out, v);
     }
     if v.len() % CELL == 0 {
-        return cells(text, out, v);
+        return cells(rt, text, out, v);
     }
-    listed(text, out, v, BYTE, b'[', b']')
+    listed(rt, text, out, v, BYTE, b'[', b']')
 }
 
 // The other reading, where there is one, as a comment.
-fn other(text: &mut [u8; ROOM], out: Output, v: &[u8], is_text: bool) -> Output {
+fn other(rt: &HostRuntime, text: &mut [u8; ROOM], out: Output, v: &[u8], is_text: bool) -> Output {
     if !is_text {
         return out;
     }
     if v.len() % CELL != 0 {
         return out;
     }
-    let begun = text::bytes(text, out, b" // or ");
-    cells(text, begun, v)
+    let begun = text::bytes(rt, text, out, b" // or ");
+    cells(rt, text, begun, v)
 }
 
 // The bytes as pairs of hexadecimal digits.
-pub fn pairs(text: &mut [u8; ROOM], out: Output, v: &[u8]) -> Output {
-    numbers(text, out, v, BYTE)
+pub fn pairs(rt: &HostRuntime, text: &mut [u8; ROOM], out: Output, v: &[u8]) -> Output {
+    numbers(rt, text, out, v, BYTE)
 }
 
 // A value by itself.
-pub fn alone(text: &mut [u8; ROOM], out: Output, v: &[u8]) -> Output {
+pub fn alone(rt: &HostRuntime, text: &mut [u8; ROOM], out: Output, v: &[u8]) -> Output {
     if v.len() == 0 {
-        return text::bytes(text, out, b"// no bytes");
+        return text::bytes(rt, text, out, b"// no bytes");
     }
     let is_text = is_text(v);
-    let out = put(text, out, v, is_text);
-    other(text, out, v, is_text)
+    let out = put(rt, text, out, v, is_text);
+    other(rt, text, out, v, is_text)
 }
 
 // What follows the name of a property that is not empty, in its line.
-fn assigned(text: &mut [u8; ROOM], out: Output, v: &[u8]) -> Output {
+fn assigned(rt: &HostRuntime, text: &mut [u8; ROOM], out: Output, v: &[u8]) -> Output {
     let is_text = is_text(v);
-    let out = text::bytes(text, out, b" = ");
-    let out = put(text, out, v, is_text);
-    let out = text::byte(text, out, b';');
-    other(text, out, v, is_text)
+    let out = text::bytes(rt, text, out, b" = ");
+    let out = put(rt, text, out, v, is_text);
+    let out = text::byte(rt, text, out, b';');
+    other(rt, text, out, v, is_text)
 }
 
 // What a property's name and value come to. An empty value is the name alone.
-pub fn property(text: &mut [u8; ROOM], out: Output, name: &[u8], v: &[u8]) -> Output {
-    let out = escape::name(text, out, name);
+pub fn property(
+    rt: &HostRuntime,
+    text: &mut [u8; ROOM],
+    out: Output,
+    name: &[u8],
+    v: &[u8],
+) -> Output {
+    let out = escape::name(rt, text, out, name);
     if v.len() == 0 {
-        return text::byte(text, out, b';');
+        return text::byte(rt, text, out, b';');
     }
-    assigned(text, out, v)
+    assigned(rt, text, out, v)
 }

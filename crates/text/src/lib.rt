@@ -1,8 +1,9 @@
 // Text that waits in a buffer, so that much goes out by one call: to standard output, or as one line to standard error.
 #![tactic(auto)]
+
 ghost use Rattle.std.specs.Prelude.{◌≡◌, take};
 
-use libc::{STDERR_FILENO, STDOUT_FILENO};
+use std::io::Print;
 
 // The room for text that waits to be written.
 pub const ROOM: usize = 32768;
@@ -43,16 +44,31 @@ pub fn upto(s: &[u8], n: usize) -> &[u8]
     &s[..n]
 }
 
+// The streams that text goes to.
+#[derive(Clone, Copy)]
+enum Stream {
+    Good,
+    Wrong,
+}
+
 // Where the text goes.
-fn target(out: Output) -> i32 {
+fn target(out: Output) -> Stream {
     if out.wrong {
-        return STDERR_FILENO;
+        return Stream::Wrong;
     }
-    STDOUT_FILENO
+    Stream::Good
+}
+
+// Writes all of the bytes to a stream, and tells whether that worked. Of no bytes it makes no call.
+fn write_all(rt: &HostRuntime, to: Stream, bytes: &[u8]) -> bool {
+    match to {
+        Stream::Good => rt.stdout().write_all(bytes).is_ok(),
+        Stream::Wrong => rt.stderr().write_all(bytes).is_ok(),
+    }
 }
 
 // Hands out what waits. After a call that failed nothing more is tried.
-pub fn flush(text: &[u8; ROOM], out: Output) -> Output {
+pub fn flush(rt: &HostRuntime, text: &[u8; ROOM], out: Output) -> Output {
     if !out.works {
         return Output {
             used: 0,
@@ -62,13 +78,13 @@ pub fn flush(text: &[u8; ROOM], out: Output) -> Output {
     }
     Output {
         used: 0,
-        works: io::write_all(target(out), upto(text, out.used)),
+        works: write_all(rt, target(out), upto(text, out.used)),
         wrong: out.wrong,
     }
 }
 
 // A byte more. A full buffer is handed out first.
-pub fn byte(text: &mut [u8; ROOM], out: Output, b: u8) -> Output {
+pub fn byte(rt: &HostRuntime, text: &mut [u8; ROOM], out: Output, b: u8) -> Output {
     let used = out.used;
     if used < ROOM {
         text[used] = b;
@@ -78,7 +94,7 @@ pub fn byte(text: &mut [u8; ROOM], out: Output, b: u8) -> Output {
             wrong: out.wrong,
         };
     }
-    let empty = flush(text, out);
+    let empty = flush(rt, text, out);
     text[0] = b;
     Output {
         used: 1,
@@ -88,11 +104,11 @@ pub fn byte(text: &mut [u8; ROOM], out: Output, b: u8) -> Output {
 }
 
 // All bytes of s, as they are.
-pub fn bytes(text: &mut [u8; ROOM], from: Output, s: &[u8]) -> Output {
+pub fn bytes(rt: &HostRuntime, text: &mut [u8; ROOM], from: Output, s: &[u8]) -> Output {
     let mut out = from;
     let mut i = 0;
     while i < s.len() {
-        out = byte(text, out, s[i]);
+        out = byte(rt, text, out, s[i]);
         i += 1;
     }
     out
@@ -108,27 +124,33 @@ pub fn short(b: u8) -> u64 {
 }
 
 // A number in decimal.
-pub fn number(text: &mut [u8; ROOM], out: Output, n: u64) -> Output {
+pub fn number(rt: &HostRuntime, text: &mut [u8; ROOM], out: Output, n: u64) -> Output {
     let mut digits = [0u8; 20];
     let k = io::decimal(n, &mut digits);
-    bytes(text, out, &digits[..k])
+    bytes(rt, text, out, &digits[..k])
 }
 
 // A space and a number.
-pub fn value(text: &mut [u8; ROOM], out: Output, n: u64) -> Output {
-    let apart = byte(text, out, b' ');
-    number(text, apart, n)
+pub fn value(rt: &HostRuntime, text: &mut [u8; ROOM], out: Output, n: u64) -> Output {
+    let apart = byte(rt, text, out, b' ');
+    number(rt, text, apart, n)
 }
 
 // A number's hexadecimal digits, at least as many as width says.
-pub fn digits(text: &mut [u8; ROOM], out: Output, n: u64, width: usize) -> Output {
+pub fn digits(
+    rt: &HostRuntime,
+    text: &mut [u8; ROOM],
+    out: Output,
+    n: u64,
+    width: usize,
+) -> Output {
     let mut digits = [0u8; 16];
     let k = io::hex(n, width, &mut digits);
-    bytes(text, out, &digits[..k])
+    bytes(rt, text, out, &digits[..k])
 }
 
 // The same after `0x`.
-pub fn hex(text: &mut [u8; ROOM], out: Output, n: u64, width: usize) -> Output {
-    let begun = bytes(text, out, b"0x");
-    digits(text, begun, n, width)
+pub fn hex(rt: &HostRuntime, text: &mut [u8; ROOM], out: Output, n: u64, width: usize) -> Output {
+    let begun = bytes(rt, text, out, b"0x");
+    digits(rt, text, begun, n, width)
 }
