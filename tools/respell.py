@@ -5,7 +5,8 @@ usage: python3 tools/respell.py [--dry]     at the top, once, right after port.p
 
 Names that are declared in specs/ or in the lemma files of proofs/ and begin with a lower-case letter lose their capitals and their dashes; names in
 capitals throughout lose their dashes. What Rattle names itself (the goals of proofs/F/) stays. Where a file has both a lemma and a definition that
-would be spelled alike, the lemma gets `_lem` at its end, as in today's library; each of those is printed.
+would be spelled alike, the lemma gets `_lem` at its end, as in today's library; each of those is printed. The definitions' own conditional is
+written `when .. then .. else ..`, since `if .. then .. else ..` is the library's.
 """
 import glob
 import re
@@ -19,7 +20,7 @@ def snake(n):
     n = n.replace("-", "_")
     if re.fullmatch(r"[A-Z0-9_]+", n):
         return n
-    return re.sub(r"(?<=[a-z0-9])(?=[A-Z])", "_", n).lower()
+    return re.sub(r"(?<=[a-z])(?=[A-Z])|(?<=[0-9])(?=[A-Z][a-z])", "_", n).lower()
 
 
 def read(p):
@@ -66,12 +67,23 @@ def spellings():
     return table, antt + rt + sorted(glob.glob("crates/*/must-fail/*.edit"))
 
 
+def conditional(text):
+    """Our conditional, which only unfolds where it is told to, under a name of its own; comments stay."""
+    lines = []
+    for line in text.split("\n"):
+        m = re.search(r"(^|\s)--(\s|$)", line)
+        at = m.start() if m else len(line)
+        lines.append(re.sub(r"(?<![\w.'\u25cc-])if(?![\w'-])", "when", line[:at]) + line[at:])
+    return "\n".join(lines)
+
+
 def main(dry):
     table, paths = spellings()
     print(f"{len(table)} names")
     for p in [] if dry else paths:
         t = read(p)
         u = TOKEN.sub(lambda m: table.get(m.group(0), m.group(0)), t)
+        u = conditional(u) if p.endswith(".antt") else u
         if u != t:
             with open(p, "w", encoding="utf-8") as f:
                 f.write(u)

@@ -2,7 +2,7 @@
 use Rattle.std.specs.Prelude.{◌≡◌, ℕ, Bool, true, false, eqb, ◌≢◌, List, [], ◌∷◌}
 use mathlib.Core.Path.{refl, sym, ap, ◌∙◌}
 use native.Mathlib.Omega.{arith}
-use Rattle.format.specs.Choice.{if◌then◌else◌}
+use Rattle.format.specs.Choice.{when◌then◌else◌}
 use Rattle.format.specs.Answer.{Refusal, refusal_numbers, Outcome, ok, refused, ◌>>=◌, check, first, numbers, itself, nothing, Span, place}
 use Rattle.format.specs.Answer.{invalid_magic_number, size_mismatch, unexpected_end_of_input, parse_error, utf8_error, version_not_supported, too_deep, reservation_room, node_room, property_room, nothing_found, missing0, too_short, not_usable}
 
@@ -34,8 +34,8 @@ unfolding ◌>>=◌
 then_then (ok a) f g = refl
 then_then (refused r) f g = refl
 
-pub then_if : {A B : Type 0} (t : Bool) (x y : Outcome A) (f : A → Outcome B) → ((if t then x else y) >>= f) ≡ (if t then (x >>= f) else (y >>= f))
-unfolding if◌then◌else◌
+pub then_if : {A B : Type 0} (t : Bool) (x y : Outcome A) (f : A → Outcome B) → ((when t then x else y) >>= f) ≡ (when t then (x >>= f) else (y >>= f))
+unfolding when◌then◌else◌
 then_if true x y f = refl
 then_if false x y f = refl
 
@@ -105,27 +105,27 @@ carried (x ∷ xs) = x
 
 refusal_by : ℕ → List ℕ → Refusal
 refusal_by n ns =
-    if eqb n 1 then invalid_magic_number
-    else (if eqb n 2 then size_mismatch
-    else (if eqb n 3 then unexpected_end_of_input
-    else (if eqb n 4 then parse_error (carried ns)
-    else (if eqb n 5 then utf8_error
-    else (if eqb n 6 then version_not_supported
-    else (if eqb n 7 then too_deep (carried ns)
-    else (if eqb n 8 then reservation_room (carried ns)
-    else (if eqb n 9 then node_room (carried ns)
-    else (if eqb n 10 then property_room (carried ns)
-    else (if eqb n 11 then nothing_found
-    else (if eqb n 12 then missing0
-    else (if eqb n 13 then too_short else not_usable))))))))))))
+    when eqb n 1 then invalid_magic_number
+    else (when eqb n 2 then size_mismatch
+    else (when eqb n 3 then unexpected_end_of_input
+    else (when eqb n 4 then parse_error (carried ns)
+    else (when eqb n 5 then utf8_error
+    else (when eqb n 6 then version_not_supported
+    else (when eqb n 7 then too_deep (carried ns)
+    else (when eqb n 8 then reservation_room (carried ns)
+    else (when eqb n 9 then node_room (carried ns)
+    else (when eqb n 10 then property_room (carried ns)
+    else (when eqb n 11 then nothing_found
+    else (when eqb n 12 then missing0
+    else (when eqb n 13 then too_short else not_usable))))))))))))
 
 module _ {A : Type 0} (carries : A → List ℕ) (back : List ℕ → A) (whole : (a : A) → back (carries a) ≡ a) where
   decode : List ℕ → Outcome A
   decode [] = refused unexpected_end_of_input
-  decode (n ∷ ns) = if eqb n 0 then ok (back ns) else refused (refusal_by n ns)
+  decode (n ∷ ns) = when eqb n 0 then ok (back ns) else refused (refusal_by n ns)
 
   decoded : (m : Outcome A) → decode (numbers carries m) ≡ m
-  unfolding decode numbers refusal_numbers refusal_by carried if◌then◌else◌
+  unfolding decode numbers refusal_numbers refusal_by carried when◌then◌else◌
   decoded (ok a) = ap ok (whole a)
   decoded (refused invalid_magic_number) = refl
   decoded (refused size_mismatch) = refl

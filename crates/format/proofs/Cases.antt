@@ -3,7 +3,7 @@ use Rattle.std.specs.Prelude.{◌≡◌, ℕ, zero, suc, ◌≤◌, Bool, true, 
 use mathlib.Core.Path.{refl, ap}
 use native.Mathlib.Omega.{arith}
 use borrow.Author.Tests.{ltb-true, ne_eqb}
-use Rattle.format.specs.Choice.{if◌then◌else◌}
+use Rattle.format.specs.Choice.{when◌then◌else◌}
 use Rattle.format.specs.Answer.{refusal_numbers, Outcome, ok, refused, invalid_magic_number, numbers, first, itself, ◌>>=◌, check}
 use Rattle.format.specs.Bytes.{part, big_endian, number, value_at, word_at, align, AreBytes}
 use Rattle.format.specs.Format.{magic, version, magic_at, BEGIN_NODE, END_NODE, PROP, reservation_width, node_width, property_width, NONE}
@@ -26,7 +26,7 @@ use Rattle.format.proofs.Load.{accepted}
 
 -- The one claim.
 pub starred : map said cases ≡ map (λ (c : Case). c.says) cases
-unfolding said after_load cases S words lent used big_endian part number value_at align if◌then◌else◌ numbers itself refusal_numbers ◌>>=◌ check magic version BEGIN_NODE END_NODE PROP reservation_width node_width property_width NONE leading_ones within tail second further_by further goes_on from_utf8 node_count property_count size_zero ours after_property after_properties after_name after_node read_be until_zero read_bstring0 subslice property properties nodes node_load reservation reservations header body load_within load blank at property_at first_row node_rows property_row property_rows node_properties rows reservation_numbers node_numbers property_numbers nodes_in properties_in tree_numbers capacity room tables_after into.load SLASH head rest same after_slash as_number link_good links_good name_inside name_at across down reach parts_inside property_name value_span among properties_inside property_of usable find prop_raw bytes_of prop_u32
+unfolding said after_load cases S words lent used big_endian part number value_at align when◌then◌else◌ numbers itself refusal_numbers ◌>>=◌ check magic version BEGIN_NODE END_NODE PROP reservation_width node_width property_width NONE leading_ones within tail second further_by further goes_on from_utf8 node_count property_count size_zero ours after_property after_properties after_name after_node read_be until_zero read_bstring0 subslice property properties nodes node_load reservation reservations header body load_within load blank at property_at first_row node_rows property_row property_rows node_properties rows reservation_numbers node_numbers property_numbers nodes_in properties_in tree_numbers capacity room tables_after into.load SLASH head rest same after_slash as_number link_good links_good name_inside name_at across down reach parts_inside property_name value_span among properties_inside property_of usable find prop_raw bytes_of prop_u32
 starred = refl
 
 -- "Four bytes other than the magic": whatever they are, and whatever follows.

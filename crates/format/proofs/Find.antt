@@ -4,7 +4,7 @@ use Rattle.std.specs.Prelude.{◌≡◌, ℕ, ◌+◌, ◌<◌, ◌≤◌, Bool,
 use mathlib.Core.Path.{refl, sym, ◌∙◌, subst}
 use native.Mathlib.Omega.{arith}
 use borrow.Author.Tests.{eq-eqb, ne_eqb, lt-ltb, le-ltb}
-use Rattle.format.specs.Choice.{if◌then◌else◌}
+use Rattle.format.specs.Choice.{when◌then◌else◌}
 use Rattle.format.specs.Answer.{Outcome, ok, ◌>>=◌}
 use Rattle.format.specs.Tree.{Property, Node, node, Nodes, none, ◌&◌, node_count, node_counts, Tree}
 use Rattle.format.specs.Encodes.{after_properties, after_name, after_node}
@@ -102,8 +102,8 @@ found_tree_place b t path place e = step _ _ e λ below _ e. (found_below t.root
 here_of : Outcome Place → Outcome Node
 here_of m = m >>= λ place. ok place.here
 
-here_if : (t : Bool) (x x' y y' : Outcome Place) → here_of x ≡ here_of x' → here_of y ≡ here_of y' → here_of (if t then x else y) ≡ here_of (if t then x' else y')
-unfolding if◌then◌else◌
+here_if : (t : Bool) (x x' y y' : Outcome Place) → here_of x ≡ here_of x' → here_of y ≡ here_of y' → here_of (when t then x else y) ≡ here_of (when t then x' else y')
+unfolding when◌then◌else◌
 here_if true x x' y y' h k = h
 here_if false x x' y y' h k = k
 

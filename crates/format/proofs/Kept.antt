@@ -4,7 +4,7 @@ use Rattle.std.specs.Prelude.{◌≡◌, ℕ, eqb, List, [], ◌∷◌}
 use mathlib.Core.Path.{refl, sym, ap, ◌∙◌, subst}
 use mathlib.Core.Option.{Option, none, some}
 use borrow.Author.Tests.{eq-eqb, ne_eqb}
-use Rattle.format.specs.Choice.{if◌then◌else◌}
+use Rattle.format.specs.Choice.{when◌then◌else◌}
 use Rattle.format.specs.Answer.{refusal_numbers, Outcome, ok, refused, numbers, first}
 use Rattle.format.specs.Bytes.{AreBytes}
 use Rattle.format.specs.Tree.{Tree}
@@ -44,7 +44,7 @@ accepted_kept lent c t e l =
     }
 
 one_call : (lent : Tables) (c : Call) (before : Option Call) → KeptIfAny lent before → Loads lent c.blob c.answer c.left
-    → (m : Outcome Tree) → load lent c.blob ≡ m → KeptIfAny c.left (if eqb (first c.answer) 0 then some c else before)
+    → (m : Outcome Tree) → load lent c.blob ≡ m → KeptIfAny c.left (when eqb (first c.answer) 0 then some c else before)
 unfolding KeptIfAny numbers first
 one_call lent c before kept l (ok t) e =
     let answer : c.answer ≡ 0 ∷ tree_numbers t = l.answers ∙ ap (numbers tree_numbers) e in

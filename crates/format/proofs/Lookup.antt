@@ -5,7 +5,7 @@ use mathlib.Core.Path.{refl, sym, ap, ◌∙◌}
 use native.Mathlib.Omega.{arith}
 use lib.ListN.{length-append}
 use borrow.Author.Tests.{le-leb, lt-ltb, le-ltb, eq-eqb, ne_eqb}
-use Rattle.format.specs.Choice.{if◌then◌else◌}
+use Rattle.format.specs.Choice.{when◌then◌else◌}
 use Rattle.format.specs.Answer.{Outcome, ok, refused, ◌>>=◌, nothing_found, not_usable}
 use Rattle.format.specs.Bytes.{AreBytes, word_at}
 use Rattle.format.specs.Format.{NONE, structure_at, strings_at}
@@ -219,8 +219,8 @@ module _ (b : List ℕ) (strings : Block) (P : List PropertyRow) where
       ∙ go (same x.name nm) refl says (among_list xs (after_property p x) (k + 1) nm (run_tail P k _ _ h) n.1)
     where
       go : (t : Bool) → same x.name nm ≡ t → PropertySays x k → bytes_in b (among b P (length xs) (k + 1) nm) ≡ first_named xs nm
-          → bytes_in b (if same (property_name b P k) nm then ok (value_span P k) else among b P (length xs) (k + 1) nm)
-          ≡ (if same x.name nm then ok x.value else first_named xs nm)
+          → bytes_in b (when same (property_name b P k) nm then ok (value_span P k) else among b P (length xs) (k + 1) nm)
+          ≡ (when same x.name nm then ok x.value else first_named xs nm)
       go true e says ih =
           ap (bytes_in b) (if_yes _ _ (ap (λ l. same l nm) says.name_is ∙ e)) ∙ ap ok says.value_is ∙ sym (if_yes _ _ e)
       go false e says ih = ap (bytes_in b) (if_no _ _ (ap (λ l. same l nm) says.name_is ∙ e)) ∙ ih ∙ sym (if_no _ _ e)

@@ -3,7 +3,7 @@
 use Rattle.std.specs.Prelude.{◌≡◌, ℕ, zero, suc, ◌+◌, ◌<◌, ◌≤◌, Bool, eqb, List, [], ◌∷◌, length}
 use mathlib.Core.Path.{refl, sym, ap}
 use native.Mathlib.Omega.{arith}
-use Rattle.format.specs.Choice.{if◌then◌else◌}
+use Rattle.format.specs.Choice.{when◌then◌else◌}
 use Rattle.format.specs.Format.{BEGIN_NODE, PROP}
 use Rattle.format.specs.Answer.{Outcome, ok, refused, unexpected_end_of_input, ◌>>=◌}
 use Rattle.format.specs.Tree.{Property, Node, Nodes, none, ◌&◌, Reservation}
@@ -41,7 +41,7 @@ module _ (b : List ℕ) where
 
     -- the loop over properties, a turn
     pub properties_turn : (p : ℕ) → properties b strings (length b) p ≡ (read_be_u32 b p >>= λ token.
-        if eqb token PROP
+        when eqb token PROP
         then (property b strings p >>= λ first.
         properties b strings (length b) first.next >>= λ rest.
         ok (record { value = first.value ∷ rest.value; next = rest.next }))
@@ -110,7 +110,7 @@ module _ (b : List ℕ) where
 
   -- the loop over children, a turn
   pub nodes_turn : (strings : Block) (d p : ℕ) → nodes b (λ q. node_load b strings d q) (length b) p ≡ (read_be_u32 b p >>= λ token.
-      if eqb token BEGIN_NODE
+      when eqb token BEGIN_NODE
       then (node_load b strings d p >>= λ first.
       nodes b (λ q. node_load b strings d q) (length b) first.next >>= λ rest.
       ok (record { value = first.value & rest.value; next = rest.next }))
@@ -138,7 +138,7 @@ module _ (b : List ℕ) where
 
     -- the loop over reservations, a turn
     pub reservations_turn : (p : ℕ) → reservations is_last b (length b) p ≡ (reservation b p >>= λ first.
-        if is_last first
+        when is_last first
         then ok (first ∷ [])
         else (reservations is_last b (length b) (p + 16) >>= λ rest. ok (first ∷ rest)))
     unfolding reservations

@@ -4,7 +4,7 @@ use Rattle.std.specs.Prelude.{◌≡◌, ℕ, ◌<◌, Bool, true, false, eqb, L
 use mathlib.Core.Path.{refl, sym, ap, ◌∙◌, subst}
 use native.Mathlib.Omega.{arith}
 use borrow.Author.Tests.{eqb-true}
-use Rattle.format.specs.Choice.{if◌then◌else◌}
+use Rattle.format.specs.Choice.{when◌then◌else◌}
 use Rattle.format.specs.Answer.{Outcome, ok, refused, nothing_found, ◌>>=◌}
 use Rattle.format.specs.Bytes.{AreBytes, word_at}
 use Rattle.format.specs.Format.{structure_at}
@@ -103,8 +103,8 @@ pub data Found {A : Type 0} : Outcome A → Type 0 where
   found : (a : A) → Found (ok a)
   nothing : Found (refused nothing_found)
 
-found_if : {A : Type 0} (t : Bool) (x y : Outcome A) → Found x → Found y → Found (if t then x else y)
-unfolding if◌then◌else◌
+found_if : {A : Type 0} (t : Bool) (x y : Outcome A) → Found x → Found y → Found (when t then x else y)
+unfolding when◌then◌else◌
 found_if true x y h k = h
 found_if false x y h k = k
 

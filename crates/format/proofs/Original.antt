@@ -3,7 +3,7 @@
 use Rattle.std.specs.Prelude.{◌≡◌, ℕ, zero, suc, ◌+◌, ◌<◌, ◌≤◌, Bool, true, false, ◌≢◌, List, [], ◌∷◌, length, drop}
 use mathlib.Core.Path.{refl, sym, ◌∙◌}
 use native.Mathlib.Omega.{arith}
-use Rattle.format.specs.Choice.{if◌then◌else◌}
+use Rattle.format.specs.Choice.{when◌then◌else◌}
 use Rattle.format.specs.Answer.{Refusal, refusal_numbers, first, code, Limit, unexpected_end_of_input, Outcome, ok, refused, ◌>>=◌, check}
 use Rattle.format.specs.Tree.{Node, Tree, Reservation}
 use Rattle.format.specs.Encodes.{Block}
@@ -35,8 +35,8 @@ unfolding Agree code ◌>>=◌
 agree_then (ok a) m' f f' h k n = rw (h (omega arith)) (k a n)
 agree_then (refused r) m' f f' h k n = rw (h n)
 
-agree_if : {A : Type 0} (t : Bool) (x x' y y' : Outcome A) → Agree x x' → Agree y y' → Agree (if t then x else y) (if t then x' else y')
-unfolding if◌then◌else◌
+agree_if : {A : Type 0} (t : Bool) (x x' y y' : Outcome A) → Agree x x' → Agree y y' → Agree (when t then x else y) (when t then x' else y')
+unfolding when◌then◌else◌
 agree_if true x x' y y' h k = h
 agree_if false x x' y y' h k = k
 
@@ -89,8 +89,8 @@ unfolding check code
 check_not true r h = omega arith
 check_not false r h = h
 
-if_not : {A : Type 0} (t : Bool) (x y : Outcome A) → NotTooDeep x → NotTooDeep y → NotTooDeep (if t then x else y)
-unfolding if◌then◌else◌
+if_not : {A : Type 0} (t : Bool) (x y : Outcome A) → NotTooDeep x → NotTooDeep y → NotTooDeep (when t then x else y)
+unfolding when◌then◌else◌
 if_not true x y h k = h
 if_not false x y h k = k
 

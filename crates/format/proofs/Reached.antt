@@ -5,7 +5,7 @@ use mathlib.Core.Path.{refl, sym, ◌∙◌}
 use mathlib.Core.Logic.{inl, inr, ⊎_elim}
 use native.Mathlib.Omega.{arith}
 use borrow.Author.Tests.{eqb-true, ltb-true, eq-eqb, ne_eqb}
-use Rattle.format.specs.Choice.{if◌then◌else◌}
+use Rattle.format.specs.Choice.{when◌then◌else◌}
 use Rattle.format.specs.Format.{NONE}
 use Rattle.format.specs.Rows.{NodeRow, at}
 use Rattle.format.specs.Find.{head, rest, same}
@@ -112,19 +112,19 @@ unfoldable Rising : ℕ → List ℕ → Type 0
 Rising low [] = Unit {0}
 Rising low (x ∷ xs) = (low ≤ x) × Rising (suc x) xs
 
-if_rising : (low : ℕ) (t : Bool) (x y : List ℕ) → (t ≡ true → Rising low x) → (t ≡ false → Rising low y) → Rising low (if t then x else y)
-unfolding if◌then◌else◌
+if_rising : (low : ℕ) (t : Bool) (x y : List ℕ) → (t ≡ true → Rising low x) → (t ≡ false → Rising low y) → Rising low (when t then x else y)
+unfolding when◌then◌else◌
 if_rising low true x y f g = f refl
 if_rising low false x y f g = g refl
 
 -- numbers that rise are all different
 rising_none : (low x : ℕ) (xs : List ℕ) → Rising low xs → x < low → count x xs ≡ 0
-unfolding Rising count if◌then◌else◌
+unfolding Rising count when◌then◌else◌
 rising_none low x [] h l = refl
 rising_none low x (y ∷ ys) h l = rw (ne_eqb x y (omega (arith, h.0)), rising_none (suc y) x ys h.1 (omega (arith, h.0)))
 
 rising_once : (low x : ℕ) (xs : List ℕ) → Rising low xs → count x xs ≤ 1
-unfolding Rising count if◌then◌else◌
+unfolding Rising count when◌then◌else◌
 rising_once low x [] h = omega arith
 rising_once low x (y ∷ ys) h =
     tested (eqb x y)

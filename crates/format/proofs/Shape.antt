@@ -6,7 +6,7 @@ use native.Mathlib.Omega.{arith}
 use native.Mathlib.Nat.{add-zero, zero-add, add_assoc}
 use mathlib.Core.List.{append_assoc, append-nil}
 use borrow.Author.Tests.{eq-eqb, ne_eqb}
-use Rattle.format.specs.Choice.{if◌then◌else◌}
+use Rattle.format.specs.Choice.{when◌then◌else◌}
 use Rattle.format.specs.Format.{NONE}
 use Rattle.format.specs.Tree.{Property, Node, node, Nodes, none, ◌&◌, node_count, node_counts, property_count, property_counts}
 use Rattle.format.specs.Encodes.{after_properties, after_name}
@@ -46,12 +46,12 @@ rows_from none row k h = tt
 rows_from (n & ns) row k h = (h, rows_from ns (row + node_count n) k (omega arith))
 
 count_below : (i : ℕ) (xs : List ℕ) → AllBelow xs i → count i xs ≡ 0
-unfolding AllBelow count if◌then◌else◌
+unfolding AllBelow count when◌then◌else◌
 count_below i [] h = refl
 count_below i (x ∷ xs) h = rw (ne_eqb i x (omega arith), count_below i xs h.1)
 
 count_above : (i : ℕ) (xs : List ℕ) → NoneBelow xs (i + 1) → count i xs ≡ 0
-unfolding NoneBelow count if◌then◌else◌
+unfolding NoneBelow count when◌then◌else◌
 count_above i [] h = refl
 count_above i (x ∷ xs) h = rw (ne_eqb i x (omega arith), count_above i xs h.1)
 
@@ -62,7 +62,7 @@ count_append i (x ∷ xs) ys = rw (count_append i xs ys) (omega arith)
 
 -- a number between smaller and greater ones stands once
 count_once : (i : ℕ) (xs ys : List ℕ) → AllBelow xs i → NoneBelow ys (i + 1) → count i (xs ++ i ∷ ys) ≡ 1
-unfolding count if◌then◌else◌
+unfolding count when◌then◌else◌
 count_once i xs ys h k = count_append i xs (i ∷ ys) ∙ rw (count_below i xs h, eq-eqb i i refl, count_above i ys k)
 
 below_more : (xs : List ℕ) (k m : ℕ) → k ≤ m → AllBelow xs k → AllBelow xs m
@@ -79,13 +79,13 @@ module _ (R : List NodeRow) where
   -- ---- the walk
 
   walk_none : (fuel : ℕ) → walk R fuel NONE ≡ []
-  unfolding walk NONE if◌then◌else◌
+  unfolding walk NONE when◌then◌else◌
   walk_none zero = refl
   walk_none (suc fuel) = refl
 
   module _ (small : length R ≤ NONE) where
     walk_row : (fuel r : ℕ) → r < length R → walk R (suc fuel) r ≡ r ∷ walk R fuel (at R r).first_child ++ walk R fuel (at R r).next_sibling
-    unfolding walk if◌then◌else◌
+    unfolding walk when◌then◌else◌
     walk_row fuel r h = rw (ne_eqb r NONE (omega arith))
 
     mutual
@@ -112,12 +112,12 @@ module _ (R : List NodeRow) where
     -- ---- parents
 
     siblings_none : (fuel : ℕ) → siblings R fuel NONE ≡ []
-    unfolding siblings NONE if◌then◌else◌
+    unfolding siblings NONE when◌then◌else◌
     siblings_none zero = refl
     siblings_none (suc fuel) = refl
 
     siblings_row : (fuel r : ℕ) → r < length R → siblings R (suc fuel) r ≡ r ∷ siblings R fuel (at R r).next_sibling
-    unfolding siblings if◌then◌else◌
+    unfolding siblings when◌then◌else◌
     siblings_row fuel r h = rw (ne_eqb r NONE (omega arith))
 
     -- what a node's row says
@@ -153,7 +153,7 @@ module _ (R : List NodeRow) where
     -- a row with another parent is not listed
     not_listed : (ns : Nodes) (p row props parent : ℕ) → Run R row (nodes_rows ns p row props parent)
         → (i : ℕ) → parent ≢ (at R i).parent → count i (rows_of ns row) ≡ 0
-    unfolding count rows_of if◌then◌else◌
+    unfolding count rows_of when◌then◌else◌
     not_listed none p row props parent h i other = refl
     not_listed (n & ns) p row props parent h i other =
         let r = row_is n p row props parent (first_row ns (row + node_count n)) (first_run R n ns p row props parent h) in

@@ -3,7 +3,7 @@ use Rattle.std.specs.Prelude.{◌≡◌, ℕ, zero, suc, ◌<◌, ◌≤◌, Boo
 use mathlib.Core.Path.{refl}
 use native.Mathlib.Omega.{arith}
 use native.Mathlib.Decide.{dec_le}
-use Rattle.format.specs.Choice.{if◌then◌else◌}
+use Rattle.format.specs.Choice.{when◌then◌else◌}
 
 pub split {ℓ} : {X : Type ℓ} (a b : ℕ) → (a ≤ b → X) → (b < a → X) → X
 split a b f g = elim (dec_le a b) [ yes h ↦ f h | no h ↦ g (omega arith) ]
@@ -22,22 +22,22 @@ tested false f g = g refl
 
 -- ---- the conditional
 
-pub if_yes : {A : Type 0} {t : Bool} (x y : A) → t ≡ true → (if t then x else y) ≡ x
-unfolding if◌then◌else◌
-if_yes x y e = rw (e, if◌then◌else◌)
+pub if_yes : {A : Type 0} {t : Bool} (x y : A) → t ≡ true → (when t then x else y) ≡ x
+unfolding when◌then◌else◌
+if_yes x y e = rw (e, when◌then◌else◌)
 
-pub if_no : {A : Type 0} {t : Bool} (x y : A) → t ≡ false → (if t then x else y) ≡ y
-unfolding if◌then◌else◌
-if_no x y e = rw (e, if◌then◌else◌)
+pub if_no : {A : Type 0} {t : Bool} (x y : A) → t ≡ false → (when t then x else y) ≡ y
+unfolding when◌then◌else◌
+if_no x y e = rw (e, when◌then◌else◌)
 
 -- which way it went
-pub if-went {ℓ} : {A : Type 0} {C : Type ℓ} (t : Bool) (x y : A) {r : A} → (if t then x else y) ≡ r
+pub if-went {ℓ} : {A : Type 0} {C : Type ℓ} (t : Bool) (x y : A) {r : A} → (when t then x else y) ≡ r
     → (t ≡ true → x ≡ r → C) → (t ≡ false → y ≡ r → C) → C
-unfolding if◌then◌else◌
+unfolding when◌then◌else◌
 if-went true x y e f g = f refl e
 if-went false x y e f g = g refl e
 
-pub if_same : {A : Type 0} (t : Bool) (x x' y y' : A) → x ≡ x' → y ≡ y' → (if t then x else y) ≡ (if t then x' else y')
+pub if_same : {A : Type 0} (t : Bool) (x x' y y' : A) → x ≡ x' → y ≡ y' → (when t then x else y) ≡ (when t then x' else y')
 if_same t x x' y y' e k = rw (e, k)
 
 -- ---- tables: a test passed by every number below n

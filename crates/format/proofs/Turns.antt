@@ -7,7 +7,7 @@ use mathlib.Core.List.{append_assoc}
 use lib.ListN.{length-append}
 use lib.Seq.{take-append_seam}
 use borrow.Author.Tests.{eq-eqb, ne_eqb}
-use Rattle.format.specs.Choice.{if◌then◌else◌}
+use Rattle.format.specs.Choice.{when◌then◌else◌}
 use Rattle.format.specs.Bytes.{align, part}
 use Rattle.format.specs.Format.{BEGIN_NODE, END_NODE, PROP}
 use Rattle.format.specs.Answer.{Refusal, parse_error, utf8_error, too_deep, Outcome, ok, refused, ◌>>=◌, check}
@@ -43,7 +43,7 @@ first_rest {L = L} (ok first) k join = go (k first.next)
 module _ (b : List ℕ) (strings : Block) where
   -- the loop over properties
   pub properties_next : (p : ℕ) → next_of (properties b strings (length b) p) ≡ (read_be_u32 b p >>= λ token.
-      if eqb token PROP then (next_of (property b strings p) >>= λ q. next_of (properties b strings (length b) q)) else ok p)
+      when eqb token PROP then (next_of (property b strings p) >>= λ q. next_of (properties b strings (length b) q)) else ok p)
   unfolding next_of
   properties_next p =
       ap (λ m. m >>= λ r. ok r.next) (properties_turn b strings p)
@@ -52,7 +52,7 @@ module _ (b : List ℕ) (strings : Block) where
 
   -- the loop over children
   pub nodes_next : (d p : ℕ) → next_of (nodes b (λ q. node_load b strings d q) (length b) p) ≡ (read_be_u32 b p >>= λ token.
-      if eqb token BEGIN_NODE then (next_of (node_load b strings d p) >>= λ q. next_of (nodes b (λ q. node_load b strings d q) (length b) q)) else ok p)
+      when eqb token BEGIN_NODE then (next_of (node_load b strings d p) >>= λ q. next_of (nodes b (λ q. node_load b strings d q) (length b) q)) else ok p)
   unfolding next_of
   nodes_next d p =
       ap (λ m. m >>= λ r. ok r.next) (nodes_turn b strings d p)

@@ -6,7 +6,7 @@ use native.Mathlib.Omega.{arith}
 use mathlib.Core.Option.{Option, none, some}
 use lib.Count.{count_leading_zeros}
 use borrow.Author.Tests.{leb-true, eqb-true, le-leb, lt-ltb, le-ltb, ne_eqb}
-use Rattle.format.specs.Choice.{if◌then◌else◌}
+use Rattle.format.specs.Choice.{when◌then◌else◌}
 use Rattle.format.proofs.Tools.{split, both, never_both, all_below, each_below}
 use Rattle.format.specs.Utf8.{In, Tail, Utf8, end, utf8_1, utf8_2, utf8_3_e0, utf8_3_e1, utf8_3_ed, utf8_3_ee, utf8_4_f0, utf8_4_f1, utf8_4_f4}
 use Rattle.format.specs.Utf8.{leading_ones, Range, within, tail, second, further_by, further, goes_on, from_utf8}
@@ -33,49 +33,49 @@ GoesOn (r ∷ rs) (x ∷ s) = Is r x × GoesOn rs s
 
 module _ (a : ℕ) where
   ones_0 : a < 0x80 → leading_ones a ≡ 0
-  unfolding leading_ones if◌then◌else◌
+  unfolding leading_ones when◌then◌else◌
   ones_0 h = rw (lt-ltb a 0x80 h)
 
   ones_2 : In 0xc2 0xdf a → leading_ones a ≡ 2
-  unfolding leading_ones if◌then◌else◌
+  unfolding leading_ones when◌then◌else◌
   ones_2 h = rw (le-ltb a 0x80 (omega arith), le-ltb a 0xc0 (omega arith), lt-ltb a 0xe0 (omega arith))
 
   ones_3 : In 0xe0 0xef a → leading_ones a ≡ 3
-  unfolding leading_ones if◌then◌else◌
+  unfolding leading_ones when◌then◌else◌
   ones_3 h = rw (le-ltb a 0x80 (omega arith), le-ltb a 0xc0 (omega arith), le-ltb a 0xe0 (omega arith), lt-ltb a 0xf0 (omega arith))
 
   ones_4 : In 0xf0 0xf4 a → leading_ones a ≡ 4
-  unfolding leading_ones if◌then◌else◌
+  unfolding leading_ones when◌then◌else◌
   ones_4 h = rw (le-ltb a 0x80 (omega arith), le-ltb a 0xc0 (omega arith), le-ltb a 0xe0 (omega arith), le-ltb a 0xf0 (omega arith), lt-ltb a 0xf8 (omega arith))
 
   second_other : a ≢ 0xe0 → a ≢ 0xed → a ≢ 0xf0 → a ≢ 0xf4 → second a ≡ tail
-  unfolding second if◌then◌else◌
+  unfolding second when◌then◌else◌
   second_other h₁ h₂ h₃ h₄ = rw (ne_eqb a 0xe0 h₁, ne_eqb a 0xed h₂, ne_eqb a 0xf0 h₃, ne_eqb a 0xf4 h₄)
 
   further_0 : a < 0x80 → further a ≡ some []
-  unfolding further further_by if◌then◌else◌
+  unfolding further further_by when◌then◌else◌
   further_0 h = rw (ones_0 h)
 
   further_2 : In 0xc2 0xdf a → further a ≡ some (tail ∷ [])
-  unfolding further further_by if◌then◌else◌
+  unfolding further further_by when◌then◌else◌
   further_2 h = rw (ones_2 h, le-ltb a 0xc2 (omega arith))
 
   further_3 : In 0xe0 0xef a → further a ≡ some (second a ∷ tail ∷ [])
-  unfolding further further_by if◌then◌else◌
+  unfolding further further_by when◌then◌else◌
   further_3 h = rw (ones_3 h)
 
   further_4 : In 0xf0 0xf4 a → further a ≡ some (second a ∷ tail ∷ tail ∷ [])
-  unfolding further further_by if◌then◌else◌
+  unfolding further further_by when◌then◌else◌
   further_4 h = rw (ones_4 h, le-ltb 0xf4 a h.high)
 
   further_low : In 0x80 0xc1 a → further a ≡ none
-  unfolding further further_by leading_ones if◌then◌else◌
+  unfolding further further_by leading_ones when◌then◌else◌
   further_low h =
       split a 0xbf (λ k. rw (le-ltb a 0x80 h.low, lt-ltb a 0xc0 (omega arith)))
       (λ k. rw (le-ltb a 0x80 h.low, le-ltb a 0xc0 k, lt-ltb a 0xe0 (omega arith), lt-ltb a 0xc2 (omega arith)))
 
   further_high : 0xf4 < a → further a ≡ none
-  unfolding further further_by leading_ones if◌then◌else◌
+  unfolding further further_by leading_ones when◌then◌else◌
   further_high h =
       split a 0xf7
       (λ k. rw (le-ltb a 0x80 (omega arith), le-ltb a 0xc0 (omega arith), le-ltb a 0xe0 (omega arith), le-ltb a 0xf0 (omega arith), lt-ltb a 0xf8 (omega arith), lt-ltb 0xf4 a h))
@@ -108,7 +108,7 @@ unfolding tail
 usual a b e h = rw e h
 
 complete : {s : List ℕ} → Utf8 s → goes_on [] s ≡ true
-unfolding second tail if◌then◌else◌
+unfolding second tail when◌then◌else◌
 complete end = ends
 complete (utf8_1 {a} {s} h u) = starts a [] s (further_0 a (omega arith)) (complete u)
 complete (utf8_2 {a} {b} {s} h i u) = starts a _ _ (further_2 a h) (passes tail _ b s i (complete u))
@@ -141,7 +141,7 @@ sort a =
     split a 0xf4 (λ h. is_4 (omega arith)) λ h. bad (further_high a h)
 
 grammar_3 : (a b c : ℕ) (s : List ℕ) → In 0xe0 0xef a → Is (second a) b → Tail c → Utf8 s → Utf8 (a ∷ b ∷ c ∷ s)
-unfolding second tail if◌then◌else◌
+unfolding second tail when◌then◌else◌
 grammar_3 a b c s h i j u =
     split a 0xe0 (λ k. let e : a ≡ 0xe0 = omega arith in utf8_3_e0 e (rw e at i) j u) λ h₁.
     split a 0xec (λ k. utf8_3_e1 (omega arith) (rw (second_other a (omega arith) (omega arith) (omega arith) (omega arith)) at i) j u) λ h₂.
@@ -149,7 +149,7 @@ grammar_3 a b c s h i j u =
     utf8_3_ee (omega arith) (rw (second_other a (omega arith) (omega arith) (omega arith) (omega arith)) at i) j u
 
 grammar_4 : (a b c d : ℕ) (s : List ℕ) → In 0xf0 0xf4 a → Is (second a) b → Tail c → Tail d → Utf8 s → Utf8 (a ∷ b ∷ c ∷ d ∷ s)
-unfolding second tail if◌then◌else◌
+unfolding second tail when◌then◌else◌
 grammar_4 a b c d s h i j k u =
     split a 0xf0 (λ k₁. let e : a ≡ 0xf0 = omega arith in utf8_4_f0 e (rw e at i) j k u) λ h₁.
     split a 0xf3 (λ k₁. utf8_4_f1 (omega arith) (rw (second_other a (omega arith) (omega arith) (omega arith) (omega arith)) at i) j k u) λ h₂.
@@ -209,7 +209,7 @@ utf8_exact s = (sound [] s, complete)
 -- ---- the leading one bits of a byte, computed once over all 256
 
 ones_agree : all_below 256 (λ a. eqb (min 5 (count_leading_zeros 8 (255 - a))) (leading_ones a)) ≡ true
-unfolding all_below count_leading_zeros leading_ones if◌then◌else◌
+unfolding all_below count_leading_zeros leading_ones when◌then◌else◌
 ones_agree = refl
 
 pub leading_ones_lem : (a : ℕ) → a < 256 → min 5 (count_leading_zeros 8 (255 - a)) ≡ leading_ones a

@@ -1,7 +1,7 @@
 -- Finding a node and a property in a tree (document 01, "Finding a node and a property"; the Rust's own `find`, `has_prop`,
 -- `prop_raw`, `prop_str`, `prop_u32`, `prop_u64`).
 use Rattle.std.specs.Prelude.{ℕ, ◌+◌, ◌-◌, Bool, true, false, ◌&&◌, List, [], ◌∷◌, length, take, ◌==◌, nat_le, nat_lt, slice_index}
-use Rattle.format.specs.Choice.{if◌then◌else◌}
+use Rattle.format.specs.Choice.{when◌then◌else◌}
 use Rattle.format.specs.Answer.{Outcome, ok, refused, ◌>>=◌, check, nothing_found, missing0, too_short, utf8_error}
 use Rattle.format.specs.Bytes.{number, word_at}
 use Rattle.format.specs.Format.{structure_at}
@@ -17,11 +17,11 @@ SLASH = 0x2f
 -- the text before the first `/`, and what is after it
 unfoldable pub head : List ℕ → List ℕ
 head [] = []
-head (c ∷ s) = if c == SLASH then [] else (c ∷ head s)
+head (c ∷ s) = when c == SLASH then [] else (c ∷ head s)
 
 unfoldable pub rest : List ℕ → List ℕ
 rest [] = []
-rest (c ∷ s) = if c == SLASH then s else rest s
+rest (c ∷ s) = when c == SLASH then s else rest s
 
 -- "Names are compared whole."
 unfoldable pub same : List ℕ → List ℕ → Bool
@@ -55,7 +55,7 @@ unfoldable mutual
   pub find_among : Nodes → ℕ → ℕ → List ℕ → List ℕ → Outcome Place
   find_among none row p first later = refused nothing_found
   find_among (n & ns) row p first later =
-      if same (name_of n) first
+      when same (name_of n) first
       then find_below n row p later
       else find_among ns (row + node_count n) (after_node p n) first later
 
@@ -68,7 +68,7 @@ root_place b t = record { here = t.root; row = 0; position = word_at b structure
 -- "A tree path that doesn't start with `/` gives 11; the leading `/` is dropped."
 unfoldable pub after_slash : List ℕ → Outcome (List ℕ)
 after_slash [] = refused nothing_found
-after_slash (c ∷ path) = if c == SLASH then ok path else refused nothing_found
+after_slash (c ∷ path) = when c == SLASH then ok path else refused nothing_found
 
 unfoldable pub find : List ℕ → Tree → List ℕ → Outcome Place
 find b t path = after_slash path >>= λ below. find_from (root_place b t) below
@@ -77,14 +77,14 @@ find b t path = after_slash path >>= λ below. find_from (root_place b t) below
 unfoldable mutual
   pub place_below : Node → ℕ → ℕ → ℕ → Outcome Place
   place_below (node name xs children) row p i =
-      if i == row
+      when i == row
       then ok (record { here = node name xs children; row = row; position = p })
       else place_among children (row + 1) (after_properties (after_name p name) xs) i
 
   pub place_among : Nodes → ℕ → ℕ → ℕ → Outcome Place
   place_among none row p i = refused nothing_found
   place_among (n & ns) row p i =
-      if nat_lt i (row + node_count n) then place_below n row p i else place_among ns (row + node_count n) (after_node p n) i
+      when nat_lt i (row + node_count n) then place_below n row p i else place_among ns (row + node_count n) (after_node p n) i
 
 unfoldable pub place_of : List ℕ → Tree → ℕ → Outcome Place
 place_of b t i = place_below t.root 0 (word_at b structure_at) i
@@ -94,7 +94,7 @@ place_of b t i = place_below t.root 0 (word_at b structure_at) i
 -- "The first property of a name counts."
 unfoldable pub first_named : List Property → List ℕ → Outcome (List ℕ)
 first_named [] name = refused nothing_found
-first_named (x ∷ xs) name = if same x.name name then ok x.value else first_named xs name
+first_named (x ∷ xs) name = when same x.name name then ok x.value else first_named xs name
 
 unfoldable pub prop_raw : Node → List ℕ → Outcome (List ℕ)
 prop_raw n name = first_named (properties_of n) name

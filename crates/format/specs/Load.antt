@@ -2,7 +2,7 @@
 use Rattle.std.specs.Prelude.{◌≡◌, ℕ, ◌/◌, ◌<◌, ◌≤◌, List, [], ◌∷◌, length, nat_eq, nat_le}
 use Rattle.std.proofs.Math.Option.{Option, some}
 use Rattle.std.proofs.lemmas.List.Edits.{sets}
-use Rattle.format.specs.Choice.{if◌then◌else◌}
+use Rattle.format.specs.Choice.{when◌then◌else◌}
 use Rattle.format.specs.Bytes.{AreBytes}
 use Rattle.format.specs.Format.{version, reservation_width, node_width, property_width}
 use Rattle.format.specs.Answer.{Refusal, Outcome, ok, refused, ◌>>=◌, check, numbers, first, reservation_room, node_room, property_room}
@@ -90,4 +90,4 @@ Calls first (c ∷ cs) last = Loads first c.blob c.answer c.left × Calls c.left
 -- the last call that was answered 0, or else `before`
 unfoldable pub last_accepted : Option Call → List Call → Option Call
 last_accepted before [] = before
-last_accepted before (c ∷ cs) = last_accepted (if nat_eq (first c.answer) 0 then some c else before) cs
+last_accepted before (c ∷ cs) = last_accepted (when nat_eq (first c.answer) 0 then some c else before) cs

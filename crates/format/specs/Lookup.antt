@@ -1,7 +1,7 @@
 -- Lookups in rows and in lent tables, whatever they hold (document 01, "Finding a node and a property").
 -- Answer 15 comes exactly where a test here fails.
 use Rattle.std.specs.Prelude.{ℕ, zero, suc, ◌+◌, Bool, ◌&&◌, ◌||◌, List, [], ◌∷◌, length, ◌==◌, nat_le, nat_lt}
-use Rattle.format.specs.Choice.{if◌then◌else◌}
+use Rattle.format.specs.Choice.{when◌then◌else◌}
 use Rattle.format.specs.Answer.{Outcome, ok, refused, ◌>>=◌, check, Span, nothing_found, not_usable}
 use Rattle.format.specs.Bytes.{part}
 use Rattle.format.specs.Format.{NONE, node_width, property_width}
@@ -30,9 +30,9 @@ name_at b R r = part b (at R r).name_offset (at R r).name_length
 unfoldable pub across : List ℕ → List NodeRow → ℕ → ℕ → List ℕ → List ℕ → Outcome ℕ
 across b R zero r first later = refused not_usable
 across b R (suc turns) r first later =
-    if r == NONE then refused nothing_found
-    else (if links_good R r && name_inside b R r
-    then (if same (name_at b R r) first
+    when r == NONE then refused nothing_found
+    else (when links_good R r && name_inside b R r
+    then (when same (name_at b R r) first
     then (elim later [ [] ↦ ok r | c ∷ s ↦ across b R turns (at R r).first_child (head (c ∷ s)) (rest (c ∷ s)) ])
     else across b R turns (at R r).next_sibling first later)
     else refused not_usable)
@@ -41,9 +41,9 @@ across b R (suc turns) r first later =
 unfoldable pub compared : List ℕ → List NodeRow → ℕ → ℕ → List ℕ → List ℕ → List ℕ
 compared b R zero r first later = []
 compared b R (suc turns) r first later =
-    if r == NONE then []
-    else (if links_good R r && name_inside b R r
-    then (r ∷ (if same (name_at b R r) first
+    when r == NONE then []
+    else (when links_good R r && name_inside b R r
+    then (r ∷ (when same (name_at b R r) first
     then (elim later [ [] ↦ [] | c ∷ s ↦ compared b R turns (at R r).first_child (head (c ∷ s)) (rest (c ∷ s)) ])
     else compared b R turns (at R r).next_sibling first later))
     else [])
@@ -77,8 +77,8 @@ value_span P k = record { offset = (property_at P k).value_offset; size = (prope
 unfoldable pub among : List ℕ → List PropertyRow → ℕ → ℕ → List ℕ → Outcome Span
 among b P zero k name = refused nothing_found
 among b P (suc n) k name =
-    if parts_inside b P k
-    then (if same (property_name b P k) name then ok (value_span P k) else among b P n (k + 1) name)
+    when parts_inside b P k
+    then (when same (property_name b P k) name then ok (value_span P k) else among b P n (k + 1) name)
     else refused not_usable
 
 -- "judges of its node only that first property plus count is within the property count"

@@ -1,7 +1,7 @@
 -- How a blob is read, step by step (document 01; the Rust's src/util.rs and src/lib.rs, whose names these are).
 -- The first failure is the answer.
 use Rattle.std.specs.Prelude.{ℕ, zero, suc, ◌+◌, ◌-◌, ◌^◌, Bool, not, List, [], ◌∷◌, length, take, drop, ◌==◌, nat_le, nat_lt}
-use Rattle.format.specs.Choice.{if◌then◌else◌}
+use Rattle.format.specs.Choice.{when◌then◌else◌}
 use Rattle.format.specs.Answer.{Outcome, ok, refused, ◌>>=◌, check, unexpected_end_of_input, parse_error, utf8_error, too_deep, invalid_magic_number, size_mismatch, version_not_supported}
 use Rattle.format.specs.Bytes.{part, value_at, align}
 use Rattle.format.specs.Format.{magic, version, magic_at, total_size_at, structure_at, strings_at, reservations_at, version_at, boot_cpu_at, BEGIN_NODE, END_NODE, PROP}
@@ -72,7 +72,7 @@ unfoldable pub properties : List ℕ → Block → ℕ → ℕ → Outcome (Read
 properties b strings zero p = refused unexpected_end_of_input
 properties b strings (suc fuel) p = do
   token ← read_be_u32 b p
-  if token == PROP
+  when token == PROP
       then (do
         first ← property b strings p
         rest ← properties b strings fuel first.next
@@ -84,7 +84,7 @@ unfoldable pub nodes : List ℕ → (ℕ → Outcome (Read Node)) → ℕ → �
 nodes b load zero p = refused unexpected_end_of_input
 nodes b load (suc fuel) p = do
   token ← read_be_u32 b p
-  if token == BEGIN_NODE
+  when token == BEGIN_NODE
       then (do
         first ← load p
         rest ← nodes b load fuel first.next
@@ -115,7 +115,7 @@ unfoldable pub reservations : (Reservation → Bool) → List ℕ → ℕ → �
 reservations is_last b zero p = refused unexpected_end_of_input
 reservations is_last b (suc fuel) p = do
   first ← reservation b p
-  if is_last first
+  when is_last first
       then ok (first ∷ [])
       else (do
         rest ← reservations is_last b fuel (p + 16)

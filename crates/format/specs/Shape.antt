@@ -1,7 +1,7 @@
 -- Rows that are one tree, said of the rows: every row but the first has one parent, a walk along the links meets every row once and
 -- in order, every property row is one node's; and which tree rows and a blob tell.
 use Rattle.std.specs.Prelude.{◌≡◌, ℕ, zero, suc, ◌+◌, ◌<◌, ◌≤◌, ◌≢◌, List, [], ◌∷◌, ◌++◌, length, ◌==◌, nat_eq}
-use Rattle.format.specs.Choice.{if◌then◌else◌}
+use Rattle.format.specs.Choice.{when◌then◌else◌}
 use Rattle.format.specs.Format.{NONE, reservation_width, node_width, property_width}
 use Rattle.format.specs.Tree.{Property, Node, node, Nodes, none, ◌&◌, Tree, node_count, property_count}
 use Rattle.format.specs.Rows.{NodeRow, PropertyRow, at, reservations_in, nodes_in, properties_in}
@@ -13,7 +13,7 @@ use Rattle.format.specs.Lookup.{name_at, property_name, value_span, bytes_of}
 -- row r and its later siblings
 unfoldable pub siblings : List NodeRow → ℕ → ℕ → List ℕ
 siblings R zero r = []
-siblings R (suc turns) r = if r == NONE then [] else (r ∷ siblings R turns (at R r).next_sibling)
+siblings R (suc turns) r = when r == NONE then [] else (r ∷ siblings R turns (at R r).next_sibling)
 
 unfoldable pub children_of : List NodeRow → ℕ → List ℕ
 children_of R i = siblings R (length R) (at R i).first_child
@@ -21,12 +21,12 @@ children_of R i = siblings R (length R) (at R i).first_child
 -- row r, all below it, and all below its later siblings
 unfoldable pub walk : List NodeRow → ℕ → ℕ → List ℕ
 walk R zero r = []
-walk R (suc turns) r = if r == NONE then [] else (r ∷ walk R turns (at R r).first_child ++ walk R turns (at R r).next_sibling)
+walk R (suc turns) r = when r == NONE then [] else (r ∷ walk R turns (at R r).first_child ++ walk R turns (at R r).next_sibling)
 
 -- how often x stands in a list
 unfoldable pub count : ℕ → List ℕ → ℕ
 count x [] = 0
-count x (y ∷ ys) = (if nat_eq x y then 1 else 0) + count x ys
+count x (y ∷ ys) = (when nat_eq x y then 1 else 0) + count x ys
 
 -- n numbers from k on
 unfoldable pub range : ℕ → ℕ → List ℕ

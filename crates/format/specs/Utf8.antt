@@ -1,7 +1,7 @@
 -- UTF-8: RFC 3629's grammar, and the check by the number of leading one bits (document 01, "Order of the port", 2).
 use Rattle.std.specs.Prelude.{◌≡◌, ℕ, zero, suc, ◌≤◌, Bool, true, false, ◌&&◌, eqb, ltb, List, [], ◌∷◌, ◌==◌, nat_le, nat_lt}
 use Rattle.std.proofs.Math.Option.{Option, none, some}
-use Rattle.format.specs.Choice.{if◌then◌else◌}
+use Rattle.format.specs.Choice.{when◌then◌else◌}
 
 -- x is one of lo .. hi
 pub record In (lo hi x : ℕ) : Type 0 where
@@ -29,11 +29,11 @@ pub data Utf8 : List ℕ → Type 0 where
 -- how many one bits a byte begins with, counted up to 5
 unfoldable pub leading_ones : ℕ → ℕ
 leading_ones a =
-    if nat_lt a 0x80 then 0
-    else (if ltb a 0xc0 then 1
-    else (if ltb a 0xe0 then 2
-    else (if ltb a 0xf0 then 3
-    else (if ltb a 0xf8 then 4 else 5))))
+    when nat_lt a 0x80 then 0
+    else (when ltb a 0xc0 then 1
+    else (when ltb a 0xe0 then 2
+    else (when ltb a 0xf0 then 3
+    else (when ltb a 0xf8 then 4 else 5))))
 
 pub record Range : Type 0 where
   pub lo : ℕ
@@ -49,18 +49,18 @@ tail = record { lo = 0x80; hi = 0xbf }
 -- "After E0 the second is A0 to BF, after ED 80 to 9F, after F0 90 to BF, after F4 80 to 8F."
 unfoldable pub second : ℕ → Range
 second a =
-    if a == 0xe0 then record { lo = 0xa0; hi = 0xbf }
-    else (if eqb a 0xed then record { lo = 0x80; hi = 0x9f }
-    else (if eqb a 0xf0 then record { lo = 0x90; hi = 0xbf }
-    else (if eqb a 0xf4 then record { lo = 0x80; hi = 0x8f } else tail)))
+    when a == 0xe0 then record { lo = 0xa0; hi = 0xbf }
+    else (when eqb a 0xed then record { lo = 0x80; hi = 0x9f }
+    else (when eqb a 0xf0 then record { lo = 0x90; hi = 0xbf }
+    else (when eqb a 0xf4 then record { lo = 0x80; hi = 0x8f } else tail)))
 
 -- the further bytes of a sequence that begins with a, which has that many leading ones; none: a is bad
 unfoldable pub further_by : ℕ → ℕ → Option (List Range)
 further_by zero a = some []
 further_by (suc zero) a = none
-further_by (suc (suc zero)) a = if nat_lt a 0xc2 then none else some (tail ∷ [])
+further_by (suc (suc zero)) a = when nat_lt a 0xc2 then none else some (tail ∷ [])
 further_by (suc (suc (suc zero))) a = some (second a ∷ tail ∷ [])
-further_by (suc (suc (suc (suc zero)))) a = if nat_lt 0xf4 a then none else some (second a ∷ tail ∷ tail ∷ [])
+further_by (suc (suc (suc (suc zero)))) a = when nat_lt 0xf4 a then none else some (second a ∷ tail ∷ tail ∷ [])
 further_by (suc (suc (suc (suc (suc n))))) a = none
 
 unfoldable pub further : ℕ → Option (List Range)

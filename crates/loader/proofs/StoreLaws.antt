@@ -8,7 +8,7 @@ use mathlib.Core.List.{List, [], ◌∷◌}
 use lib.ListN.{length, set, length-set}
 use lib.Seq.{sets}
 use borrow.Author.Tests.{eqb-true, eqb-false}
-use Rattle.format.specs.Choice.{if◌then◌else◌}
+use Rattle.format.specs.Choice.{when◌then◌else◌}
 use Rattle.format.specs.Format.{reservation_width}
 use Rattle.format.specs.Answer.{ok, ◌>>=◌, or_zero}
 use Rattle.format.specs.Tree.{Reservation}
@@ -49,7 +49,7 @@ module _ (b : List ℕ) where
   -- ---- a list that stands there
 
   later : (p : ℕ) (first : Reservation) (rs : List Reservation)
-      → (if size_zero first then ok (first ∷ []) else (listed b (p + 16) >>= λ rest. ok (first ∷ rest))) ≡ ok rs → Later b p first rs
+      → (when size_zero first then ok (first ∷ []) else (listed b (p + 16) >>= λ rest. ok (first ∷ rest))) ≡ ok rs → Later b p first rs
   unfolding size_zero
   later p first rs e =
       if-went _ _ _ e

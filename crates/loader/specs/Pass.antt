@@ -2,7 +2,7 @@
 -- statement speaks of the tree that stands there.
 use Rattle.std.specs.Prelude.{◌≡◌, ◌≢◌, ℕ, ◌+◌, ◌*◌, ◌≤◌, ◌<◌, ◌^◌, List, [], ◌∷◌, eqb, length, take}
 use Rattle.std.proofs.lemmas.List.Edits.{sets}
-use Rattle.format.specs.Choice.{if◌then◌else◌}
+use Rattle.format.specs.Choice.{when◌then◌else◌}
 use Rattle.format.specs.Answer.{or_empty}
 use Rattle.format.specs.Bytes.{Has, word, word_at, align}
 use Rattle.format.specs.Format.{NONE, BEGIN_NODE, END_NODE, PROP, node_width, property_width}
@@ -90,7 +90,7 @@ pub record HeadReady (b : List ℕ) (strings : encodes.Block) (p row prow : ℕ)
 
 -- the row of a first child, if the token there opens one
 unfoldable pub child_row : ℕ → ℕ → ℕ
-child_row token row = if eqb token BEGIN_NODE then row else NONE
+child_row token row = when eqb token BEGIN_NODE then row else NONE
 
 unfoldable pub head_numbers : List ℕ → List Property → ℕ → ℕ → ℕ → ℕ → List ℕ
 head_numbers b xs p row prow parent =

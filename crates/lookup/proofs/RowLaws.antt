@@ -1,7 +1,7 @@
 -- The rows that a table holds, by their places in it, and where a good link leads. Assumes nothing.
 use Rattle.std.proofs.Common.{◌≡◌, ℕ, zero, suc, ◌+◌, ◌-◌, ◌*◌, ◌%◌, ◌^◌, ◌<◌, ◌≤◌, true, false, eqb, leb, ◌≢◌, List, [], length, get_or, drop, refl, ap, ◌∙◌, ⊎_elim, arith, get_or-drop, get_or-take, le-ltb, lt-ltb, ne_eqb, eqb-true, le-leb}
 use borrow.Author.Tests.{eqb-false}
-use Rattle.format.specs.Choice.{if◌then◌else◌}
+use Rattle.format.specs.Choice.{when◌then◌else◌}
 use Rattle.format.specs.Bytes.{part}
 use Rattle.format.specs.Format.{NONE, node_width, property_width}
 use Rattle.format.specs.Rows.{NodeRow, at, property_at, nodes_in, properties_in}
@@ -129,15 +129,15 @@ module _ (R : List NodeRow) where
 
 -- how many rows are ahead of a link
 unfoldable pub ahead : ℕ → ℕ → ℕ
-ahead n link = if eqb link NONE then 0 else (n - link)
+ahead n link = when eqb link NONE then 0 else (n - link)
 
 -- fewer from link to link
 pub fewer_ahead : (R : List NodeRow) (r l : ℕ) → r ≢ NONE → r < length R → link_good R r l ≡ true → ahead (length R) l < ahead (length R) r
 unfolding ahead
 fewer_ahead R r l some h e =
-    let here : (if eqb r NONE then 0 else (length R - r)) ≡ length R - r = if_no _ _ (ne_eqb r NONE some) in
+    let here : (when eqb r NONE then 0 else (length R - r)) ≡ length R - r = if_no _ _ (ne_eqb r NONE some) in
     tested (eqb l NONE)
-    (λ t. let there : (if eqb l NONE then 0 else (length R - l)) ≡ 0 = if_yes _ _ t in omega arith)
-    (λ t. let there : (if eqb l NONE then 0 else (length R - l)) ≡ length R - l = if_no _ _ t in
+    (λ t. let there : (when eqb l NONE then 0 else (length R - l)) ≡ 0 = if_yes _ _ t in omega arith)
+    (λ t. let there : (when eqb l NONE then 0 else (length R - l)) ≡ length R - l = if_no _ _ t in
     let k = leads R r l e (eqb-false l NONE t) in
     omega arith)

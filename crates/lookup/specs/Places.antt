@@ -1,6 +1,6 @@
 -- Rows by the numbers of their table, and the places that private functions go by. No public promise cites it.
 use Rattle.std.specs.Prelude.{◌≡◌, ℕ, zero, suc, ◌+◌, ◌*◌, ◌<◌, ◌≤◌, true, ◌&&◌, List, length, ◌==◌, slice_index}
-use Rattle.format.specs.Choice.{if◌then◌else◌}
+use Rattle.format.specs.Choice.{when◌then◌else◌}
 use Rattle.format.specs.Answer.{Outcome, ok, refused, nothing_found, not_usable}
 use Rattle.format.specs.Format.{NONE, node_width, property_width}
 use Rattle.format.specs.Rows.{NodeRow, PropertyRow, at, nodes_in}
@@ -50,9 +50,9 @@ pub record IsProperty (r : PropertyCells) (x : PropertyRow) : Type 0 where
 unfoldable pub child_from : List ℕ → List NodeRow → ℕ → ℕ → List ℕ → Outcome ℕ
 child_from b R zero r first = refused not_usable
 child_from b R (suc turns) r first =
-    if r == NONE then refused nothing_found
-    else (if links_good R r && name_inside b R r
-    then (if same (name_at b R r) first then ok r else child_from b R turns (at R r).next_sibling first)
+    when r == NONE then refused nothing_found
+    else (when links_good R r && name_inside b R r
+    then (when same (name_at b R r) first then ok r else child_from b R turns (at R r).next_sibling first)
     else refused not_usable)
 
 -- what the search for the child from a link on gives: a child comes with its own link

@@ -6,7 +6,7 @@ use native.Mathlib.Omega.{arith}
 use mathlib.Core.List.{List, [], ◌∷◌}
 use lib.ListN.{length}
 use borrow.Author.Tests.{eq-eqb, ne_eqb}
-use Rattle.format.specs.Choice.{if◌then◌else◌}
+use Rattle.format.specs.Choice.{when◌then◌else◌}
 use Rattle.format.specs.Answer.{Refusal, ok, refused, ◌>>=◌}
 use Rattle.format.specs.Rules.{ours, size_zero}
 use Rattle.format.specs.Read.{read_be_u64, reservation}
@@ -20,7 +20,7 @@ sixteen p n = omega arith
 
 module _ (b : List ℕ) where
   pub list_turn : (p : ℕ) → listed b p ≡ (reservation b p >>= λ first.
-      if size_zero first then ok (first ∷ []) else (listed b (p + 16) >>= λ rest. ok (first ∷ rest)))
+      when size_zero first then ok (first ∷ []) else (listed b (p + 16) >>= λ rest. ok (first ∷ rest)))
   unfolding listed ours
   list_turn p = reservations_turn b size_zero p
 

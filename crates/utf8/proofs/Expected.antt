@@ -10,7 +10,7 @@ use lib.Seq.{drop-cons}
 use borrow.Author.Rules.{part_to_end}
 use borrow.Author.Tests.{lt-ltb, ltb-true}
 use Rattle.format.specs.Answer.{utf8_error, check}
-use Rattle.format.specs.Choice.{if◌then◌else◌}
+use Rattle.format.specs.Choice.{when◌then◌else◌}
 use Rattle.format.specs.Utf8.{Range, tail, second, within, leading_ones, further_by, further, goes_on, from_utf8}
 use Rattle.format.specs.Read.{utf8_check}
 use Rattle.format.proofs.Tools.{split}
@@ -72,8 +72,8 @@ unfolding goes
 goes_found none s = refl
 goes_found (some rs) s = refl
 
-goes_within : (t : Bool) (rs : List Range) (s : List ℕ) → (t && goes_on rs s) ≡ goes (if t then some rs else none) s
-unfolding goes if◌then◌else◌
+goes_within : (t : Bool) (rs : List Range) (s : List ℕ) → (t && goes_on rs s) ≡ goes (when t then some rs else none) s
+unfolding goes when◌then◌else◌
 goes_within true rs s = refl
 goes_within false rs s = refl
 
@@ -97,7 +97,7 @@ probes =
 -- the answers to them, as a number
 answers : (List ℕ → Bool) → List (List ℕ) → ℕ
 answers f [] = 0
-answers f (s ∷ ss) = (if f s then 1 else 0) + 2 * answers f ss
+answers f (s ∷ ss) = (when f s then 1 else 0) + 2 * answers f ss
 
 same_answers : (f g : List ℕ → Bool) → ((s : List ℕ) → f s ≡ g s) → (ss : List (List ℕ)) → answers f ss ≡ answers g ss
 unfolding answers
@@ -106,14 +106,14 @@ same_answers f g e (s ∷ ss) = rw (e s, same_answers f g e ss)
 
 place : ℕ → List ℕ → ℕ
 place n [] = 0
-place n (x ∷ xs) = if eqb n x then 0 else suc (place n xs)
+place n (x ∷ xs) = when eqb n x then 0 else suc (place n xs)
 
 -- the row of the state that answers so
 row_by : ℕ → ℕ
 row_by n = place n (1 ∷ 2 ∷ 8 ∷ 12 ∷ 4 ∷ 32 ∷ 48 ∷ 16 ∷ 0 ∷ [])
 
 row_told : (q : ℕ) → q < length states → q ≡ row_by (answers (goes (expected q)) probes)
-unfolding values states expects expected goes goes_on further further_by leading_ones tail second within if◌then◌else◌ probes answers place row_by
+unfolding values states expects expected goes goes_on further further_by leading_ones tail second within when◌then◌else◌ probes answers place row_by
 row_told = each (length states) (λ q. q) (λ q. row_by (answers (goes (expected q)) probes)) refl
 
 pub none_too_many : (q r : ℕ) → q < length states → r < length states → ((s : List ℕ) → goes (expected q) s ≡ goes (expected r) s) → q ≡ r
@@ -121,7 +121,7 @@ none_too_many q r h k e = row_told q h ∙ ap row_by (same_answers (goes (expect
 
 -- nothing follows a plain byte
 further_plain : (x : ℕ) → x < 0x80 → further x ≡ some []
-unfolding further further_by leading_ones if◌then◌else◌
+unfolding further further_by leading_ones when◌then◌else◌
 further_plain x h = let ones : leading_ones x ≡ 0 = rw (lt-ltb x 0x80 h) in rw ones
 
 -- ---- a turn of a loop, and its end
