@@ -1,7 +1,7 @@
 # Builds the original, device_tree 1.1.0, into target/compare. Read by the scripts here, at the top of the repository.
 # Sums that wrap stop it, as in its own debug builds.
 made=target/compare
-library=target/staticlib
+library=crates/capi/out
 source=${DEVICE_TREE_SRC:-/usr/share/cargo/registry/device_tree-1.1.0}
 
 if [ ! -f "$source/src/lib.rs" ]; then
@@ -24,7 +24,7 @@ over_original() {
 
 need_library() {
     if [ ! -f "$library/libcapi.a" ]; then
-        echo "No $library/libcapi.a: run rt staticlib capi first." >&2
+        echo "No $library/libcapi.a: run rt lib in crates/capi first." >&2
         exit 2
     fi
 }

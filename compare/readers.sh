@@ -7,7 +7,7 @@ set -eu
 cd "$(dirname "$0")/.."
 
 stored=crates/queries
-program=target/bin/queries
+program=crates/queries/out/queries
 . compare/original.sh
 over_original readers compare/readers.rs
 
@@ -19,7 +19,7 @@ differing() {
 case "${1:-}" in
 --random)
     if [ ! -x "$program" ]; then
-        echo "readers.sh: no $program: run rt check queries first." >&2
+        echo "readers.sh: no $program: run rt run < stdin in crates/queries first." >&2
         exit 2
     fi
     python3 compare/make_queries.py "${3:-1}" "${2:-300000}" > "$made/random.in"

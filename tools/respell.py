@@ -3,9 +3,9 @@
 
 usage: python3 tools/respell.py [--dry]     at the top, once, right after port.py
 
-Names of specs/ and of the lemma files of proofs/ that begin with a lower-case letter lose their capitals; those of specs/ lose their dashes too,
-also where they are in capitals throughout. A lemma keeps its dashes, as today's library does. It prints each name whose new spelling stands
-somewhere already, to be read.
+Names that are declared in specs/ or in the lemma files of proofs/ and begin with a lower-case letter lose their capitals and their dashes; names in
+capitals throughout lose their dashes. What Rattle names itself (the goals of proofs/F/) stays. Where a file has both a lemma and a definition that
+would be spelled alike, the lemma gets `_lem` at its end, as in today's library; each of those is printed.
 """
 import glob
 import re
@@ -13,59 +13,68 @@ import sys
 
 NAME = r"[^\s(){}\[\].,;:\"`]+"
 TOKEN = re.compile(NAME)
-# Lemmas beside a definition that takes their spelling: they get the dash that their likes have.
-BY_HAND = {"found_back": "found-back", "span_outcome": "span-outcome", "leading_ones": "leading-ones"}
 
 
 def snake(n):
-    if re.fullmatch(r"[A-Z0-9_-]+", n):
-        return n.replace("-", "_")
+    n = n.replace("-", "_")
+    if re.fullmatch(r"[A-Z0-9_]+", n):
+        return n
     return re.sub(r"(?<=[a-z0-9])(?=[A-Z])", "_", n).lower()
+
+
+def read(p):
+    with open(p, encoding="utf-8") as f:
+        return f.read()
 
 
 def declared(paths):
     found = {}
     line = re.compile(r"(?m)^[ ]*(?:(?:pub|unfoldable|abbrev|mutual) )*(" + NAME + r"(?: " + NAME + r")*) :(?= |$)")
     for p in paths:
-        t = re.sub(r"(?m)--.*$", "", open(p, encoding="utf-8").read())
-        for m in line.finditer(t):
+        for m in line.finditer(re.sub(r"(?m)--.*$", "", read(p))):
             for n in m.group(1).split():
                 found.setdefault(n, set()).add(p)
     return found
 
 
-def main(dry):
+def spellings():
+    """Each name to be turned, with its new spelling."""
     antt = sorted(glob.glob("crates/*/specs/**/*.antt", recursive=True) + glob.glob("crates/*/proofs/**/*.antt", recursive=True))
-    specs = [p for p in antt if "/specs/" in p]
-    lemmas = [p for p in antt if p in specs or re.fullmatch(r"crates/\w+/proofs/\w+\.antt", p)]
+    lemmas = [p for p in antt if "/specs/" in p or re.fullmatch(r"crates/\w+/proofs/\w+\.antt", p)]
     rt = sorted(glob.glob("crates/*/src/**/*.rt", recursive=True))
-    edits = sorted(glob.glob("crates/*/must-fail/*.edit"))
-    tokens = {}
-    for p in antt + rt:
-        for n in TOKEN.findall(open(p, encoding="utf-8").read()):
-            tokens.setdefault(n, set()).add(p)
-    table = dict(BY_HAND)
-    for n, where in sorted(declared(lemmas).items()):
-        in_specs = any("/specs/" in p for p in where)
-        if n in table or not re.match(r"[a-z]|[A-Z0-9_-]+$", n):
-            continue
-        m = snake(n)
-        if in_specs:
-            m = m.replace("-", "_")
-        if m != n:
-            table[n] = m
-    back = {}
+    files = {p: set(TOKEN.findall(read(p))) for p in antt + rt}
+    made = {n for p in antt if p not in lemmas for n in declared([p])}
+    own = declared(lemmas)
+    table = {}
+    for n in own:
+        if re.match(r"[a-z]|[A-Z0-9_-]+$", n) and snake(n) != n and (re.search("[A-Z]", n) or n not in made or "specs" in str(own[n])):
+            table[n] = snake(n)
+    by_new = {}
     for n, m in table.items():
-        back.setdefault(m, []).append(n)
-    for m, ns in sorted(back.items()):
-        if len(ns) > 1 or m in tokens and m not in table:
-            print(f"look: {' '.join(ns)} -> {m}: {' '.join(sorted(tokens.get(m, []))[:4])}")
+        by_new.setdefault(m, set()).add(n)
+    for m, olds in sorted(by_new.items()):
+        names = olds | ({m} & own.keys())
+        if not any(len(names & t) > 1 for t in files.values()):
+            continue
+        # the definition keeps the plain spelling: one of specs/, else one with capitals, else the one that has it
+        first = sorted(names, key=lambda n: (not any("/specs/" in p for p in own.get(n, ())), not re.search("[A-Z]", n), n != m, n))[0]
+        for n in names - {first}:
+            table[n] = m + "_lem"
+            print(f"both: {first} and {n}: {m} and {table[n]}")
+        if first == m:
+            table.pop(m, None)
+    return table, antt + rt + sorted(glob.glob("crates/*/must-fail/*.edit"))
+
+
+def main(dry):
+    table, paths = spellings()
     print(f"{len(table)} names")
-    for p in [] if dry else antt + rt + edits:
-        t = open(p, encoding="utf-8").read()
+    for p in [] if dry else paths:
+        t = read(p)
         u = TOKEN.sub(lambda m: table.get(m.group(0), m.group(0)), t)
         if u != t:
-            open(p, "w", encoding="utf-8").write(u)
+            with open(p, "w", encoding="utf-8") as f:
+                f.write(u)
 
 
 if __name__ == "__main__":

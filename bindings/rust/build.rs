@@ -1,5 +1,5 @@
-// Finds libcapi.a: in the folder that DANGRISUK_LIB_DIR names, else in the repository's target/staticlib, where
-// `rt staticlib capi` makes it if it is missing.
+// Finds libcapi.a: in the folder that DANGRISUK_LIB_DIR names, else in the repository's crates/capi/out, where `rt lib`
+// makes it if it is missing.
 use std::env;
 use std::path::{Path, PathBuf};
 use std::process::{exit, Command};
@@ -9,19 +9,19 @@ const VARIABLE: &str = "DANGRISUK_LIB_DIR";
 
 fn stop(why: &str) -> ! {
     eprintln!("device_tree: {why}");
-    eprintln!("device_tree: make {ARCHIVE} by `rt staticlib capi`, or set {VARIABLE} to the folder that has it.");
+    eprintln!("device_tree: make {ARCHIVE} by `rt lib` in crates/capi, or set {VARIABLE} to the folder that has it.");
     exit(1)
 }
 
 // The repository's archive, made if it is missing.
 fn made() -> PathBuf {
     let manifest = env::var_os("CARGO_MANIFEST_DIR").expect("cargo sets CARGO_MANIFEST_DIR");
-    let repository = Path::new(&manifest).join("../..");
-    let folder = repository.join("target/staticlib");
+    let capi = Path::new(&manifest).join("../../crates/capi");
+    let folder = capi.join("out");
     if !folder.join(ARCHIVE).is_file() {
-        match Command::new("rt").args(["staticlib", "capi"]).current_dir(&repository).status() {
+        match Command::new("rt").arg("lib").current_dir(&capi).status() {
             Ok(status) if status.success() => (),
-            Ok(status) => stop(&format!("`rt staticlib capi` failed: {status}.")),
+            Ok(status) => stop(&format!("`rt lib` failed: {status}.")),
             Err(why) => stop(&format!("no {} and `rt` cannot be run: {why}.", folder.join(ARCHIVE).display())),
         }
     }

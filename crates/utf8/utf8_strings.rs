@@ -1,7 +1,8 @@
 // The UTF-8 check beside `core::str::from_utf8`, on 43 million byte strings. By hand, from the repository's folder:
 //
-//     rt staticlib capi
-//     rustc -O -L native=target/staticlib -l static=capi -o target/utf8_strings crates/utf8/utf8_strings.rs && target/utf8_strings
+//     (cd crates/capi && rt lib)
+//     mkdir -p target
+//     rustc -O -L native=crates/capi/out -l static=capi -o target/utf8_strings crates/utf8/utf8_strings.rs && target/utf8_strings
 //
 // It stops at the first string that is answered otherwise.
 

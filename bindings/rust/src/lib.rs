@@ -1,7 +1,7 @@
 //! Reads flattened device trees (`.dtb`) by Dangrisuk's proved code.
 //!
 //! The names and types are those of the crate device_tree 1.1.0, so a program that uses it changes a line of its `Cargo.toml`
-//! and no line of its own. `load` and every lookup are calls of the static library that `rt staticlib capi` makes; this crate
+//! and no line of its own. `load` and every lookup are calls of the static library that `rt lib` makes in `crates/capi`; this crate
 //! copies names and values into the tree's fields and turns numbers into the original's errors. The folder's `README.md` says
 //! what differs.
 //!

@@ -18,21 +18,21 @@ back (c ∷ v ∷ boot ∷ r ∷ n ∷ []) = answer.Alone c
 back (c ∷ v ∷ boot ∷ r ∷ n ∷ p ∷ []) = answer.Tree (record { version = v; boot_cpuid_phys = boot; reserved = r; nodes = n; props = p })
 back (c ∷ v ∷ boot ∷ r ∷ n ∷ p ∷ q ∷ more) = answer.Alone c
 
-is-back : (a : Answer) → back (answer_numbers a) ≡ a
+is_back : (a : Answer) → back (answer_numbers a) ≡ a
 unfolding answer_numbers back
-is-back (answer.Alone code) = refl
-is-back (answer.With code n) = refl
-is-back (answer.Part start len) = refl
-is-back (answer.Tree t) = refl
+is_back (answer.Alone code) = refl
+is_back (answer.With code n) = refl
+is_back (answer.Part start len) = refl
+is_back (answer.Tree t) = refl
 
 -- an answer's numbers determine it
-pub answer-by-numbers : (r s : Answer) → answer_numbers r ≡ answer_numbers s → r ≡ s
-answer-by-numbers r s e = sym (is-back r) ∙ ap back e ∙ is-back s
+pub answer_by_numbers : (r s : Answer) → answer_numbers r ≡ answer_numbers s → r ≡ s
+answer_by_numbers r s e = sym (is_back r) ∙ ap back e ∙ is_back s
 
 -- each of the calls that number an answer promises that its numbers are these
-pub numbered-determined : (ns : List ℕ) (r s : Answer) → answer_numbers r ≡ ns → answer_numbers s ≡ ns → r ≡ s
-numbered-determined ns r s h k = answer-by-numbers r s (h ∙ sym k)
+pub numbered_determined : (ns : List ℕ) (r s : Answer) → answer_numbers r ≡ ns → answer_numbers s ≡ ns → r ≡ s
+numbered_determined ns r s h k = answer_by_numbers r s (h ∙ sym k)
 
-pub put-determined : (a : Answer) (lent left left' : List ℕ) → Put a lent left → Put a lent left' → left ≡ left'
+pub put_determined : (a : Answer) (lent left left' : List ℕ) → Put a lent left → Put a lent left' → left ≡ left'
 unfolding Put
-put-determined a lent left left' h k = h ∙ sym k
+put_determined a lent left left' h k = h ∙ sym k

@@ -1,5 +1,6 @@
 // Answers as document 01's numbers: how each enum of the layers below is numbered, once for all that tell answers.
 #![tactic(auto)]
+
 ghost use Rattle.std.specs.Prelude.{◌≡◌};
 ghost use Rattle.format.specs.Answer.{refusal_numbers};
 ghost use Rattle.reader.specs.Numbers.{place_numbers, word_numbers, long_numbers, span_numbers};

@@ -1,6 +1,7 @@
 // What C and Rust link: load, measure, the lookups and the readers on plain slices. A call's answer goes to `answer` as document 01's
 // numbers, from its start, as many as it has room for (6 are enough); what follows them stays as it was.
 #![tactic(auto)]
+
 ghost use Rattle.loader.specs.Numbers.{lent};
 ghost use Rattle.capi.specs.Linked.{Linked, Measured};
 

@@ -9,7 +9,7 @@ use Rattle.format.specs.Answer.{Refusal, refusal_numbers, first, Outcome, ok, re
 use Rattle.format.specs.Tree.{Tree}
 use Rattle.format.specs.Load.{Tables, tree_numbers, Loads}
 use Rattle.format.specs.Load as load
-use Rattle.format.proofs.Answer.{refusal-not-0}
+use Rattle.format.proofs.Answer.{refusal_not_0}
 use Rattle.format.proofs.Load as laws
 use Rattle.survey.specs.Outcomes.{why_of}
 use Rattle.loader.specs.Numbers.{loaded_numbers}
@@ -19,9 +19,9 @@ use Rattle.loader.specs.declared.Loaded.TheVariants.{Refused}
 -- an answer of refusal numbers is a refusal
 refuses : (m : Outcome Tree) (r : Refusal) → refusal_numbers r ≡ numbers tree_numbers m → (s : Refusal) × (m ≡ refused s)
 unfolding numbers first
-refuses (ok t) r e = absurd (refusal-not-0 r (ap first e))
+refuses (ok t) r e = absurd (refusal_not_0 r (ap first e))
 refuses (refused s) r e = (s, refl)
 
-pub refused-leaves : {lent left : Tables} {b : List ℕ} (why : DeviceTreeError) → Loads lent b (loaded_numbers (Refused why)) left → left ≡ lent
+pub refused_leaves : {lent left : Tables} {b : List ℕ} (why : DeviceTreeError) → Loads lent b (loaded_numbers (Refused why)) left → left ≡ lent
 unfolding loaded_numbers
-refused-leaves {lent} {left} {b} why l = laws.refused-leaves l (refuses (load.load lent b) (why_of why) l.answers).1
+refused_leaves {lent} {left} {b} why l = laws.refused_leaves l (refuses (load.load lent b) (why_of why) l.answers).1

@@ -13,7 +13,7 @@ use Rattle.format.specs.Encodes.{Encodes}
 use Rattle.format.specs.Read as read
 use Rattle.format.specs.Load.{Tables, tree_numbers, tables_after, Loads, Accepted}
 use Rattle.format.specs.Load as load
-use Rattle.format.proofs.Answer.{refusal-not-0, numbers-refused}
+use Rattle.format.proofs.Answer.{refusal_not_0, numbers_refused}
 use Rattle.format.proofs.Complete as complete
 use Rattle.format.proofs.Original as origin
 use Rattle.format.proofs.Load as laws
@@ -27,8 +27,8 @@ use Rattle.loader.specs.declared.Loaded.TheVariants as loaded
 
 -- a load answered 0 with that tree, and left its rows
 pub record Said (lent : Tables) (b : List ℕ) (r : Loaded) (left : Tables) (t : Tree) : Type 0 where
-  pub numbers-are : loaded_numbers r ≡ 0 ∷ tree_numbers t
-  pub tables-are : left ≡ tables_after lent b (ok t)
+  pub numbers_are : loaded_numbers r ≡ 0 ∷ tree_numbers t
+  pub tables_are : left ≡ tables_after lent b (ok t)
 
 -- some tree is encoded, with depth and room
 pub record Encoded (lent : Tables) (b : List ℕ) : Type 0 where
@@ -40,38 +40,38 @@ pub accepted : {lent left : Tables} {b : List ℕ} (r : Loaded) (t : Tree) → A
 unfolding numbers
 accepted {lent} {left} {b} r t all l a =
     let e : load.load lent b ≡ ok t = (laws.accepted lent b all t).1 a in
-    record { numbers-are = l.answers ∙ ap (numbers tree_numbers) e; tables-are = l.leaves ∙ ap (tables_after lent b) e }
+    record { numbers_are = l.answers ∙ ap (numbers tree_numbers) e; tables_are = l.leaves ∙ ap (tables_after lent b) e }
 
-accepted-by : (lent : Tables) (b : List ℕ) → AreBytes b → (m : Outcome Tree) → load.load lent b ≡ m → first (numbers tree_numbers m) ≡ 0 → Encoded lent b
+accepted_by : (lent : Tables) (b : List ℕ) → AreBytes b → (m : Outcome Tree) → load.load lent b ≡ m → first (numbers tree_numbers m) ≡ 0 → Encoded lent b
 unfolding numbers
-accepted-by lent b all (ok t) e z = record { tree = t; is = (laws.accepted lent b all t).0 e }
-accepted-by lent b all (refused r) e z = absurd (refusal-not-0 r z)
+accepted_by lent b all (ok t) e z = record { tree = t; is = (laws.accepted lent b all t).0 e }
+accepted_by lent b all (refused r) e z = absurd (refusal_not_0 r z)
 
 -- And nothing else is.
-pub accepted-only : {lent left : Tables} {b : List ℕ} (tree : DeviceTree) → AreBytes b → Loads lent b (loaded_numbers (loaded.Tree tree)) left → Encoded lent b
+pub accepted_only : {lent left : Tables} {b : List ℕ} (tree : DeviceTree) → AreBytes b → Loads lent b (loaded_numbers (loaded.Tree tree)) left → Encoded lent b
 unfolding loaded_numbers first
-accepted-only {lent} {left} {b} tree all l = accepted-by lent b all (load.load lent b) refl (sym (ap first l.answers))
+accepted_only {lent} {left} {b} tree all l = accepted_by lent b all (load.load lent b) refl (sym (ap first l.answers))
 
 -- A blob encodes at most one tree.
-pub only-tree : (rules : Rules) (b : List ℕ) (t u : Tree) → Encodes rules b t → Encodes rules b u → t ≡ u
-only-tree = complete.only-tree
+pub only_tree : (rules : Rules) (b : List ℕ) (t u : Tree) → Encodes rules b t → Encodes rules b u → t ≡ u
+only_tree = complete.only_tree
 
 -- An answer other than 7 to 10 is the Rust's.
-pub as-the-original : {lent left : Tables} {b : List ℕ} (r : Loaded) → Loads lent b (loaded_numbers r) left → (Limit (first (loaded_numbers r)) → ⊥)
+pub as_the_original : {lent left : Tables} {b : List ℕ} (r : Loaded) → Loads lent b (loaded_numbers r) left → (Limit (first (loaded_numbers r)) → ⊥)
     → loaded_numbers r ≡ numbers tree_numbers (read.load original b)
-as-the-original {lent} {left} {b} r l n =
-    l.answers ∙ ap (numbers tree_numbers) (origin.as-the-original lent b (λ h. n (rw (l.answers, ← laws.code-first (load.load lent b)) h)))
+as_the_original {lent} {left} {b} r l n =
+    l.answers ∙ ap (numbers tree_numbers) (origin.as_the_original lent b (λ h. n (rw (l.answers, ← laws.code_first (load.load lent b)) h)))
 
-pub the-original-never-7 : (b : List ℕ) → code (read.load original b) ≡ 7 → ⊥
-the-original-never-7 = origin.original-never-7
+pub the_original_never_7 : (b : List ℕ) → code (read.load original b) ≡ 7 → ⊥
+the_original_never_7 = origin.original_never_7
 
 -- Each refusal: the first failure of reading, then 8, 9, 10 by the capacities; and at no other time.
-pub each-refusal : {lent left : Tables} {b : List ℕ} (why : DeviceTreeError) → Loads lent b (loaded_numbers (Refused why)) left
+pub each_refusal : {lent left : Tables} {b : List ℕ} (why : DeviceTreeError) → Loads lent b (loaded_numbers (Refused why)) left
     → (read.load ours b ≡ refused (why_of why)) ⊎ laws.Roomless lent b (why_of why)
 unfolding loaded_numbers
-each-refusal {lent} {left} {b} why l = (laws.each-refusal lent b (why_of why)).0 (numbers-refused tree_numbers (load.load lent b) (why_of why) (sym l.answers))
+each_refusal {lent} {left} {b} why l = (laws.each_refusal lent b (why_of why)).0 (numbers_refused tree_numbers (load.load lent b) (why_of why) (sym l.answers))
 
-pub refused-when : {lent left : Tables} {b : List ℕ} (r : Loaded) (why : DeviceTreeError) → Loads lent b (loaded_numbers r) left
+pub refused_when : {lent left : Tables} {b : List ℕ} (r : Loaded) (why : DeviceTreeError) → Loads lent b (loaded_numbers r) left
     → (read.load ours b ≡ refused (why_of why)) ⊎ laws.Roomless lent b (why_of why) → loaded_numbers r ≡ loaded_numbers (Refused why)
 unfolding loaded_numbers numbers
-refused-when {lent} {left} {b} r why l w = l.answers ∙ ap (numbers tree_numbers) ((laws.each-refusal lent b (why_of why)).1 w)
+refused_when {lent} {left} {b} r why l w = l.answers ∙ ap (numbers tree_numbers) ((laws.each_refusal lent b (why_of why)).1 w)

@@ -7,5 +7,5 @@ use Rattle.format.specs.Load.{Tables, Call, Calls, last_accepted}
 use Rattle.format.specs.Kept.{Kept}
 use Rattle.format.proofs.Kept as laws
 
-pub one-tree : (first : Tables) (cs : List Call) (last : Tables) → Calls first cs last → (c : Call) → last_accepted none cs ≡ some c → Kept last c
-one-tree = laws.demand3
+pub one_tree : (first : Tables) (cs : List Call) (last : Tables) → Calls first cs last → (c : Call) → last_accepted none cs ≡ some c → Kept last c
+one_tree = laws.demand3

@@ -11,7 +11,7 @@ use Rattle.format.specs.Agrees.{bytes_in}
 use Rattle.format.proofs.Load as laws
 use Rattle.loader.specs.Numbers.{loaded_numbers}
 use Rattle.loader.specs.declared.Loaded.{Loaded}
-use Rattle.loader.proofs.Numbered.{loaded-same}
+use Rattle.loader.proofs.Numbered.{loaded_same}
 use Rattle.lookup.specs.Answers.{found_numbers, has_numbers, value_numbers}
 use Rattle.values.specs.Answers.{text_numbers, number32_numbers, number64_numbers}
 use Rattle.lookup.specs.declared.Found.{Found}
@@ -23,46 +23,46 @@ use Rattle.values.specs.declared.Number64.{Number64}
 use Rattle.lookup.proofs.Determined as lookups
 use Rattle.values.proofs.Determined as values
 
-pub load-determined : {lent left left' : Tables} {b : List ℕ} (r s : Loaded) → Loads lent b (loaded_numbers r) left → Loads lent b (loaded_numbers s) left'
+pub load_determined : {lent left left' : Tables} {b : List ℕ} (r s : Loaded) → Loads lent b (loaded_numbers r) left → Loads lent b (loaded_numbers s) left'
     → (r ≡ s) × (left ≡ left')
-load-determined r s l m = let d = laws.loads-determined l m in (loaded-same r s d.0, d.1)
+load_determined r s l m = let d = laws.loads_determined l m in (loaded_same r s d.0, d.1)
 
-pub measure-determined : {b : List ℕ} (r s : Loaded) → Measures b (loaded_numbers r) → Measures b (loaded_numbers s) → r ≡ s
-measure-determined r s l m = loaded-same r s (laws.measures-determined l m)
+pub measure_determined : {b : List ℕ} (r s : Loaded) → Measures b (loaded_numbers r) → Measures b (loaded_numbers s) → r ≡ s
+measure_determined r s l m = loaded_same r s (laws.measures_determined l m)
 
 -- Unless load has no room (8, 9, 10), it answers what measure answers.
-pub measure-agrees : {lent left : Tables} {b : List ℕ} (r s : Loaded) → Measures b (loaded_numbers r) → Loads lent b (loaded_numbers s) left
+pub measure_agrees : {lent left : Tables} {b : List ℕ} (r s : Loaded) → Measures b (loaded_numbers r) → Loads lent b (loaded_numbers s) left
     → ((8 ≤ first (loaded_numbers s)) × (first (loaded_numbers s) ≤ 10) → ⊥) → r ≡ s
-measure-agrees {lent} {left} {b} r s m l n = loaded-same r s (m.answers ∙ sym (laws.load-measures lent b (λ h. n (rw l.answers h))) ∙ sym l.answers)
+measure_agrees {lent} {left} {b} r s m l n = loaded_same r s (m.answers ∙ sym (laws.load_measures lent b (λ h. n (rw l.answers h))) ∙ sym l.answers)
 
 -- ---- the lookups, in any tables: an answer is fixed by the blob, the tables, their counts, the row, and the path or name
 
 module _ (b nodes : List ℕ) (count : ℕ) (path : List ℕ) where
-  pub find-determined : (r s : Found) → found_numbers r ≡ numbers itself (table.find b nodes count path) → found_numbers s ≡ numbers itself (table.find b nodes count path) → r ≡ s
-  find-determined = lookups.find-determined b nodes count path
+  pub find_determined : (r s : Found) → found_numbers r ≡ numbers itself (table.find b nodes count path) → found_numbers s ≡ numbers itself (table.find b nodes count path) → r ≡ s
+  find_determined = lookups.find_determined b nodes count path
 
-  pub find-from-determined : (row : ℕ) (r s : Found) → found_numbers r ≡ numbers itself (table.find_from b nodes count row path)
+  pub find_from_determined : (row : ℕ) (r s : Found) → found_numbers r ≡ numbers itself (table.find_from b nodes count row path)
       → found_numbers s ≡ numbers itself (table.find_from b nodes count row path) → r ≡ s
-  find-from-determined = lookups.find-from-determined b nodes count path
+  find_from_determined = lookups.find_from_determined b nodes count path
 
 module _ (b : List ℕ) (l : Lent) (row : ℕ) (name : List ℕ) where
-  pub has-prop-determined : (r s : Has) → has_numbers r ≡ numbers nothing (table.has_prop b l row name) → has_numbers s ≡ numbers nothing (table.has_prop b l row name) → r ≡ s
-  has-prop-determined = lookups.has-prop-determined b l row name
+  pub has_prop_determined : (r s : Has) → has_numbers r ≡ numbers nothing (table.has_prop b l row name) → has_numbers s ≡ numbers nothing (table.has_prop b l row name) → r ≡ s
+  has_prop_determined = lookups.has_prop_determined b l row name
 
-  pub prop-raw-determined : (r s : Value) → value_numbers r ≡ numbers place (table.prop_raw b l row name) → value_numbers s ≡ numbers place (table.prop_raw b l row name) → r ≡ s
-  prop-raw-determined = lookups.prop-raw-determined b l row name
+  pub prop_raw_determined : (r s : Value) → value_numbers r ≡ numbers place (table.prop_raw b l row name) → value_numbers s ≡ numbers place (table.prop_raw b l row name) → r ≡ s
+  prop_raw_determined = lookups.prop_raw_determined b l row name
 
-  pub prop-raw-part-determined : (r s : List ℕ) → r ≡ or_empty (bytes_in b (table.prop_raw b l row name)) → s ≡ or_empty (bytes_in b (table.prop_raw b l row name)) → r ≡ s
-  prop-raw-part-determined = lookups.prop-raw-part-determined b l row name
+  pub prop_raw_part_determined : (r s : List ℕ) → r ≡ or_empty (bytes_in b (table.prop_raw b l row name)) → s ≡ or_empty (bytes_in b (table.prop_raw b l row name)) → r ≡ s
+  prop_raw_part_determined = lookups.prop_raw_part_determined b l row name
 
-  pub prop-str-determined : (r s : Text) → text_numbers r ≡ numbers place (table.prop_str b l row name) → text_numbers s ≡ numbers place (table.prop_str b l row name) → r ≡ s
-  prop-str-determined = values.prop-str-determined b l row name
+  pub prop_str_determined : (r s : Text) → text_numbers r ≡ numbers place (table.prop_str b l row name) → text_numbers s ≡ numbers place (table.prop_str b l row name) → r ≡ s
+  prop_str_determined = values.prop_str_determined b l row name
 
-  pub prop-str-part-determined : (r s : List ℕ) → r ≡ or_empty (bytes_in b (table.prop_str b l row name)) → s ≡ or_empty (bytes_in b (table.prop_str b l row name)) → r ≡ s
-  prop-str-part-determined = values.prop-str-part-determined b l row name
+  pub prop_str_part_determined : (r s : List ℕ) → r ≡ or_empty (bytes_in b (table.prop_str b l row name)) → s ≡ or_empty (bytes_in b (table.prop_str b l row name)) → r ≡ s
+  prop_str_part_determined = values.prop_str_part_determined b l row name
 
-  pub prop-u32-determined : (r s : Number32) → number32_numbers r ≡ numbers itself (table.prop_u32 b l row name) → number32_numbers s ≡ numbers itself (table.prop_u32 b l row name) → r ≡ s
-  prop-u32-determined = values.prop-u32-determined b l row name
+  pub prop_u32_determined : (r s : Number32) → number32_numbers r ≡ numbers itself (table.prop_u32 b l row name) → number32_numbers s ≡ numbers itself (table.prop_u32 b l row name) → r ≡ s
+  prop_u32_determined = values.prop_u32_determined b l row name
 
-  pub prop-u64-determined : (r s : Number64) → number64_numbers r ≡ numbers itself (table.prop_u64 b l row name) → number64_numbers s ≡ numbers itself (table.prop_u64 b l row name) → r ≡ s
-  prop-u64-determined = values.prop-u64-determined b l row name
+  pub prop_u64_determined : (r s : Number64) → number64_numbers r ≡ numbers itself (table.prop_u64 b l row name) → number64_numbers s ≡ numbers itself (table.prop_u64 b l row name) → r ≡ s
+  prop_u64_determined = values.prop_u64_determined b l row name

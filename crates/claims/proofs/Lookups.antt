@@ -18,10 +18,10 @@ use Rattle.format.specs.Lookup.{Lent, compared_from}
 use Rattle.format.specs.Lookup as table
 use Rattle.format.specs.Shape.{count}
 use Rattle.format.specs.Agrees.{row_of, bytes_in, used}
-use Rattle.format.proofs.Tables.{lookups-as-the-tree, find-as-the-tree}
-use Rattle.format.proofs.Names.{bad-path-in-tables, bad-tree-path-in-tables, bad-name-in-tables}
-use Rattle.format.proofs.Reached.{path-compares-once}
-use Rattle.format.proofs.Usable.{not-15, row-usable, bytes-usable, bytes-refused, from-usable, find-usable, raw-usable, has-usable, str-usable, u32-usable, u64-usable}
+use Rattle.format.proofs.Tables.{lookups_as_the_tree, find_as_the_tree}
+use Rattle.format.proofs.Names.{bad_path_in_tables, bad_tree_path_in_tables, bad_name_in_tables}
+use Rattle.format.proofs.Reached.{path_compares_once}
+use Rattle.format.proofs.Usable.{not_15, row_usable, bytes_usable, bytes_refused, from_usable, find_usable, raw_usable, has_usable, str_usable, u32_usable, u64_usable}
 use Rattle.format.proofs.Tables as tables
 use Rattle.lookup.specs.Answers.{found_numbers, has_numbers, value_numbers, value_outcome}
 use Rattle.values.specs.Answers.{text_numbers, text_outcome, number32_numbers, number64_numbers}
@@ -31,8 +31,8 @@ use Rattle.lookup.specs.declared.Value.{Value}
 use Rattle.values.specs.declared.Text.{Text}
 use Rattle.values.specs.declared.Number32.{Number32}
 use Rattle.values.specs.declared.Number64.{Number64}
-use Rattle.lookup.proofs.Outcomes.{value-outcome}
-use Rattle.values.proofs.Outcomes.{text-outcome}
+use Rattle.lookup.proofs.Outcomes.{value_outcome_lem}
+use Rattle.values.proofs.Outcomes.{text_outcome_lem}
 
 -- what a load that accepted b as t left in its tables, and what a property lookup is then lent
 abbrev pub left : Tables → List ℕ → Tree → Tables
@@ -51,10 +51,10 @@ pub record AsTheOriginal (lent : Tables) (b : List ℕ) (t : Tree) (i : ℕ) : T
       → has_numbers r ≡ numbers nothing (tree.has_prop start.here name)
   pub prop_raw : (name : List ℕ) (r : Value) → value_numbers r ≡ numbers place (table.prop_raw b (loaded lent b t) i name)
       → bytes_in b (value_outcome r) ≡ tree.prop_raw start.here name
-  pub prop-raw-part : (name r : List ℕ) → r ≡ or_empty (bytes_in b (table.prop_raw b (loaded lent b t) i name)) → r ≡ or_empty (tree.prop_raw start.here name)
+  pub prop_raw_part : (name r : List ℕ) → r ≡ or_empty (bytes_in b (table.prop_raw b (loaded lent b t) i name)) → r ≡ or_empty (tree.prop_raw start.here name)
   pub prop_str : (name : List ℕ) (r : Text) → text_numbers r ≡ numbers place (table.prop_str b (loaded lent b t) i name)
       → bytes_in b (text_outcome r) ≡ tree.prop_str start.here name
-  pub prop-str-part : (name r : List ℕ) → r ≡ or_empty (bytes_in b (table.prop_str b (loaded lent b t) i name)) → r ≡ or_empty (tree.prop_str start.here name)
+  pub prop_str_part : (name r : List ℕ) → r ≡ or_empty (bytes_in b (table.prop_str b (loaded lent b t) i name)) → r ≡ or_empty (tree.prop_str start.here name)
   pub prop_u32 : (name : List ℕ) (r : Number32) → number32_numbers r ≡ numbers itself (table.prop_u32 b (loaded lent b t) i name)
       → number32_numbers r ≡ numbers itself (tree.prop_u32 start.here name)
   pub prop_u64 : (name : List ℕ) (r : Number64) → number64_numbers r ≡ numbers itself (table.prop_u64 b (loaded lent b t) i name)
@@ -72,80 +72,80 @@ pub record Never15 (lent : Tables) (b : List ℕ) (t : Tree) (i : ℕ) : Type 0 
 
 module _ (lent : Tables) (b : List ℕ) (t : Tree) (all : AreBytes b) (a : Accepted lent b t) where
   -- A tree path finds the node that the Rust's `DeviceTree::find` finds, or nothing.
-  pub find-as-the-original : (path : List ℕ) (r : Found) → found_numbers r ≡ numbers itself (table.find b (left lent b t).nodes (node_count t.root) path)
+  pub find_as_the_original : (path : List ℕ) (r : Found) → found_numbers r ≡ numbers itself (table.find b (left lent b t).nodes (node_count t.root) path)
       → found_numbers r ≡ numbers itself (row_of (tree.find b t path))
-  find-as-the-original path r e = e ∙ ap (numbers itself) (find-as-the-tree b t lent all a path)
+  find_as_the_original path r e = e ∙ ap (numbers itself) (find_as_the_tree b t lent all a path)
 
-  pub find-never-15 : (path : List ℕ) (r : Found) → found_numbers r ≡ numbers itself (table.find b (left lent b t).nodes (node_count t.root) path)
+  pub find_never_15 : (path : List ℕ) (r : Found) → found_numbers r ≡ numbers itself (table.find b (left lent b t).nodes (node_count t.root) path)
       → first (found_numbers r) ≢ 15
-  find-never-15 path r e = rw (find-as-the-original path r e) (not-15 itself _ (row-usable _ (find-usable b t path)))
+  find_never_15 path r e = rw (find_as_the_original path r e) (not_15 itself _ (row_usable _ (find_usable b t path)))
 
   -- From every row of the tree, every lookup says what that row's node says.
-  pub lookups-as-the-original : (i : ℕ) → i < node_count t.root → AsTheOriginal lent b t i
-  lookups-as-the-original i h =
-      let s = lookups-as-the-tree b t lent all a i h in
+  pub lookups_as_the_original : (i : ℕ) → i < node_count t.root → AsTheOriginal lent b t i
+  lookups_as_the_original i h =
+      let s = lookups_as_the_tree b t lent all a i h in
       record {
         start = s.start;
         is = s.is;
         find_from = λ path r e. e ∙ ap (numbers itself) (s.find_from path);
         has_prop = λ name r e. e ∙ ap (numbers nothing) (s.has_prop name);
-        prop_raw = λ name r e. ap (bytes_in b) (value-outcome r _ e) ∙ s.prop_raw name;
-        prop-raw-part = λ name r e. e ∙ ap or_empty (s.prop_raw name);
-        prop_str = λ name r e. ap (bytes_in b) (text-outcome r _ e) ∙ s.prop_str name;
-        prop-str-part = λ name r e. e ∙ ap or_empty (s.prop_str name);
+        prop_raw = λ name r e. ap (bytes_in b) (value_outcome_lem r _ e) ∙ s.prop_raw name;
+        prop_raw_part = λ name r e. e ∙ ap or_empty (s.prop_raw name);
+        prop_str = λ name r e. ap (bytes_in b) (text_outcome_lem r _ e) ∙ s.prop_str name;
+        prop_str_part = λ name r e. e ∙ ap or_empty (s.prop_str name);
         prop_u32 = λ name r e. e ∙ ap (numbers itself) (s.prop_u32 name);
         prop_u64 = λ name r e. e ∙ ap (numbers itself) (s.prop_u64 name);
       }
 
-  pub never-15 : (i : ℕ) → i < node_count t.root → Never15 lent b t i
-  never-15 i h =
-      let s = lookups-as-the-tree b t lent all a i h in
+  pub never_15 : (i : ℕ) → i < node_count t.root → Never15 lent b t i
+  never_15 i h =
+      let s = lookups_as_the_tree b t lent all a i h in
       let n : Node = s.start.here in
       record {
-        find_from = λ path r e. rw (e ∙ ap (numbers itself) (s.find_from path)) (not-15 itself _ (row-usable _ (from-usable s.start path)));
-        has_prop = λ name r e. rw (e ∙ ap (numbers nothing) (s.has_prop name)) (not-15 nothing _ (has-usable n name));
-        prop_raw = λ name r e. rw e (not-15 place _ (bytes-usable b _ (rw (s.prop_raw name) (raw-usable n name))));
-        prop_str = λ name r e. rw e (not-15 place _ (bytes-usable b _ (rw (s.prop_str name) (str-usable n name))));
-        prop_u32 = λ name r e. rw (e ∙ ap (numbers itself) (s.prop_u32 name)) (not-15 itself _ (u32-usable n name));
-        prop_u64 = λ name r e. rw (e ∙ ap (numbers itself) (s.prop_u64 name)) (not-15 itself _ (u64-usable n name));
+        find_from = λ path r e. rw (e ∙ ap (numbers itself) (s.find_from path)) (not_15 itself _ (row_usable _ (from_usable s.start path)));
+        has_prop = λ name r e. rw (e ∙ ap (numbers nothing) (s.has_prop name)) (not_15 nothing _ (has_usable n name));
+        prop_raw = λ name r e. rw e (not_15 place _ (bytes_usable b _ (rw (s.prop_raw name) (raw_usable n name))));
+        prop_str = λ name r e. rw e (not_15 place _ (bytes_usable b _ (rw (s.prop_str name) (str_usable n name))));
+        prop_u32 = λ name r e. rw (e ∙ ap (numbers itself) (s.prop_u32 name)) (not_15 itself _ (u32_usable n name));
+        prop_u64 = λ name r e. rw (e ∙ ap (numbers itself) (s.prop_u64 name)) (not_15 itself _ (u64_usable n name));
       }
 
   -- "One that isn't UTF-8 finds nothing in a loaded tree": 11.
-  pub bad-tree-path : (path : List ℕ) → from_utf8 path ≡ false → (r : Found)
+  pub bad_tree_path : (path : List ℕ) → from_utf8 path ≡ false → (r : Found)
       → found_numbers r ≡ numbers itself (table.find b (left lent b t).nodes (node_count t.root) path) → found_numbers r ≡ 11 ∷ []
   unfolding numbers refusal_numbers
-  bad-tree-path path bad r e = e ∙ ap (numbers itself) (bad-tree-path-in-tables b t lent all a path bad)
+  bad_tree_path path bad r e = e ∙ ap (numbers itself) (bad_tree_path_in_tables b t lent all a path bad)
 
   module _ (i : ℕ) (h : i < node_count t.root) where
-    pub bad-path : (path : List ℕ) → from_utf8 path ≡ false → (r : Found)
+    pub bad_path : (path : List ℕ) → from_utf8 path ≡ false → (r : Found)
         → found_numbers r ≡ numbers itself (table.find_from b (left lent b t).nodes (node_count t.root) i path) → found_numbers r ≡ 11 ∷ []
     unfolding numbers refusal_numbers
-    bad-path path bad r e = e ∙ ap (numbers itself) (bad-path-in-tables b t lent all a i path h bad)
+    bad_path path bad r e = e ∙ ap (numbers itself) (bad_path_in_tables b t lent all a i path h bad)
 
     module _ (name : List ℕ) (bad : from_utf8 name ≡ false) where
       none : bytes_in b (table.prop_raw b (loaded lent b t) i name) ≡ refused nothing_found
-      none = bad-name-in-tables b t lent all a i name h bad
+      none = bad_name_in_tables b t lent all a i name h bad
 
-      pub bad-name-raw : (r : Value) → value_numbers r ≡ numbers place (table.prop_raw b (loaded lent b t) i name) → value_numbers r ≡ 11 ∷ []
+      pub bad_name_raw : (r : Value) → value_numbers r ≡ numbers place (table.prop_raw b (loaded lent b t) i name) → value_numbers r ≡ 11 ∷ []
       unfolding numbers refusal_numbers
-      bad-name-raw r e = e ∙ ap (numbers place) (bytes-refused b _ none)
+      bad_name_raw r e = e ∙ ap (numbers place) (bytes_refused b _ none)
 
-      pub bad-name-has : (r : Has) → has_numbers r ≡ numbers nothing (table.has_prop b (loaded lent b t) i name) → has_numbers r ≡ 11 ∷ []
+      pub bad_name_has : (r : Has) → has_numbers r ≡ numbers nothing (table.has_prop b (loaded lent b t) i name) → has_numbers r ≡ 11 ∷ []
       unfolding numbers refusal_numbers ◌>>=◌
-      bad-name-has r e = e ∙ ap (numbers nothing) (tables.has-prop-by-raw b (loaded lent b t) i name ∙ ap (λ m. m >>= λ value. ok tt) none)
+      bad_name_has r e = e ∙ ap (numbers nothing) (tables.has_prop_by_raw b (loaded lent b t) i name ∙ ap (λ m. m >>= λ value. ok tt) none)
 
-      pub bad-name-str : (r : Text) → text_numbers r ≡ numbers place (table.prop_str b (loaded lent b t) i name) → text_numbers r ≡ 11 ∷ []
+      pub bad_name_str : (r : Text) → text_numbers r ≡ numbers place (table.prop_str b (loaded lent b t) i name) → text_numbers r ≡ 11 ∷ []
       unfolding numbers refusal_numbers ◌>>=◌
-      bad-name-str r e = e ∙ ap (numbers place) (bytes-refused b _ (tables.str-by-raw b (loaded lent b t) i name ∙ ap (λ m. m >>= tree.as_string) none))
+      bad_name_str r e = e ∙ ap (numbers place) (bytes_refused b _ (tables.str_by_raw b (loaded lent b t) i name ∙ ap (λ m. m >>= tree.as_string) none))
 
-      pub bad-name-u32 : (r : Number32) → number32_numbers r ≡ numbers itself (table.prop_u32 b (loaded lent b t) i name) → number32_numbers r ≡ 11 ∷ []
+      pub bad_name_u32 : (r : Number32) → number32_numbers r ≡ numbers itself (table.prop_u32 b (loaded lent b t) i name) → number32_numbers r ≡ 11 ∷ []
       unfolding numbers refusal_numbers ◌>>=◌
-      bad-name-u32 r e = e ∙ ap (numbers itself) (tables.u32-by-raw b (loaded lent b t) i name ∙ ap (λ m. m >>= tree.as_number 4) none)
+      bad_name_u32 r e = e ∙ ap (numbers itself) (tables.u32_by_raw b (loaded lent b t) i name ∙ ap (λ m. m >>= tree.as_number 4) none)
 
-      pub bad-name-u64 : (r : Number64) → number64_numbers r ≡ numbers itself (table.prop_u64 b (loaded lent b t) i name) → number64_numbers r ≡ 11 ∷ []
+      pub bad_name_u64 : (r : Number64) → number64_numbers r ≡ numbers itself (table.prop_u64 b (loaded lent b t) i name) → number64_numbers r ≡ 11 ∷ []
       unfolding numbers refusal_numbers ◌>>=◌
-      bad-name-u64 r e = e ∙ ap (numbers itself) (tables.u64-by-raw b (loaded lent b t) i name ∙ ap (λ m. m >>= tree.as_number 8) none)
+      bad_name_u64 r e = e ∙ ap (numbers itself) (tables.u64_by_raw b (loaded lent b t) i name ∙ ap (λ m. m >>= tree.as_number 8) none)
 
 -- In any tables, whatever they hold: a path lookup compares no row twice.
-pub compares-once : (b nodes : List ℕ) (rows row x : ℕ) (path : List ℕ) → count x (compared_from b (nodes_in rows nodes) row path) ≤ 1
-compares-once b nodes rows row x path = path-compares-once b (nodes_in rows nodes) row x path
+pub compares_once : (b nodes : List ℕ) (rows row x : ℕ) (path : List ℕ) → count x (compared_from b (nodes_in rows nodes) row path) ≤ 1
+compares_once b nodes rows row x path = path_compares_once b (nodes_in rows nodes) row x path

@@ -12,27 +12,27 @@ never e = let z : ◌≡◌ {A = ℕ} 0 1 = cc in omega arith
 pub ok_same : {A : Type 0} {x y : A} → ok x ≡ ok y → x ≡ y
 ok_same e = cc
 
-pub refused-same : {A : Type 0} {x y : Refusal} → ◌≡◌ {A = Outcome A} (refused x) (refused y) → x ≡ y
-refused-same e = cc
+pub refused_same : {A : Type 0} {x y : Refusal} → ◌≡◌ {A = Outcome A} (refused x) (refused y) → x ≡ y
+refused_same e = cc
 
 -- ---- steps
 
-pub ok-then : {A B : Type 0} (a : A) (f : A → Outcome B) → (ok a >>= f) ≡ f a
+pub ok_then : {A B : Type 0} (a : A) (f : A → Outcome B) → (ok a >>= f) ≡ f a
 unfolding ◌>>=◌
-ok-then a f = refl
+ok_then a f = refl
 
 pub then_ok : {A B : Type 0} (m : Outcome A) (f : A → Outcome B) {r : Outcome B} {a : A} → m ≡ ok a → f a ≡ r → (m >>= f) ≡ r
 unfolding ◌>>=◌
 then_ok m f e k = ap (λ m. m >>= f) e ∙ k
 
-pub then-refused : {A B : Type 0} (m : Outcome A) (f : A → Outcome B) {r : Refusal} → m ≡ refused r → (m >>= f) ≡ refused r
+pub then_refused : {A B : Type 0} (m : Outcome A) (f : A → Outcome B) {r : Refusal} → m ≡ refused r → (m >>= f) ≡ refused r
 unfolding ◌>>=◌
-then-refused m f e = ap (λ m. m >>= f) e
+then_refused m f e = ap (λ m. m >>= f) e
 
-pub then-then : {A B C : Type 0} (m : Outcome A) (f : A → Outcome B) (g : B → Outcome C) → ((m >>= f) >>= g) ≡ (m >>= λ a. f a >>= g)
+pub then_then : {A B C : Type 0} (m : Outcome A) (f : A → Outcome B) (g : B → Outcome C) → ((m >>= f) >>= g) ≡ (m >>= λ a. f a >>= g)
 unfolding ◌>>=◌
-then-then (ok a) f g = refl
-then-then (refused r) f g = refl
+then_then (ok a) f g = refl
+then_then (refused r) f g = refl
 
 pub then_if : {A B : Type 0} (t : Bool) (x y : Outcome A) (f : A → Outcome B) → ((if t then x else y) >>= f) ≡ (if t then (x >>= f) else (y >>= f))
 unfolding if◌then◌else◌
@@ -46,10 +46,10 @@ then_same (ok a) f g h = h a refl
 then_same (refused r) f g h = refl
 
 -- a continuation that hands on what it is given
-pub then-self : {A : Type 0} (m : Outcome A) (f : A → Outcome A) → ((a : A) → m ≡ ok a → f a ≡ ok a) → (m >>= f) ≡ m
+pub then_self : {A : Type 0} (m : Outcome A) (f : A → Outcome A) → ((a : A) → m ≡ ok a → f a ≡ ok a) → (m >>= f) ≡ m
 unfolding ◌>>=◌
-then-self (ok a) f h = h a refl
-then-self (refused r) f h = refl
+then_self (ok a) f h = h a refl
+then_self (refused r) f h = refl
 
 -- a step that went well: what it gave, and that the rest went well
 pub step {ℓ} : {A B : Type 0} {C : Type ℓ} (m : Outcome A) (f : A → Outcome B) {y : B} → (m >>= f) ≡ ok y
@@ -58,13 +58,13 @@ unfolding ◌>>=◌
 step (ok a) f e go = go a refl e
 step (refused r) f e go = absurd (never e)
 
-pub check-ok : {t : Bool} (r : Refusal) → t ≡ true → check t r ≡ ok tt
+pub check_ok : {t : Bool} (r : Refusal) → t ≡ true → check t r ≡ ok tt
 unfolding check
-check-ok r e = rw (e, check)
+check_ok r e = rw (e, check)
 
-pub check-no : {t : Bool} (r : Refusal) → t ≡ false → check t r ≡ refused r
+pub check_no : {t : Bool} (r : Refusal) → t ≡ false → check t r ≡ refused r
 unfolding check
-check-no r e = rw (e, check)
+check_no r e = rw (e, check)
 
 pub checked : (t : Bool) (r : Refusal) {u : Unit {0}} → check t r ≡ ok u → t ≡ true
 unfolding check
@@ -76,26 +76,26 @@ pub check-went {ℓ} : {B : Type 0} {C : Type ℓ} (t : Bool) (r : Refusal) (f :
     → (t ≡ false → r ≡ s → C) → (t ≡ true → f tt ≡ refused s → C) → C
 unfolding check ◌>>=◌
 check-went true r f e failed passed = passed refl e
-check-went false r f e failed passed = failed refl (refused-same e)
+check-went false r f e failed passed = failed refl (refused_same e)
 
 -- ---- no refusal is numbered 0
 
-pub refusal-not-0 : (r : Refusal) → first (refusal_numbers r) ≢ 0
+pub refusal_not_0 : (r : Refusal) → first (refusal_numbers r) ≢ 0
 unfolding first refusal_numbers
-refusal-not-0 invalid_magic_number = omega arith
-refusal-not-0 size_mismatch = omega arith
-refusal-not-0 unexpected_end_of_input = omega arith
-refusal-not-0 (parse_error p) = omega arith
-refusal-not-0 utf8_error = omega arith
-refusal-not-0 version_not_supported = omega arith
-refusal-not-0 (too_deep p) = omega arith
-refusal-not-0 (reservation_room n) = omega arith
-refusal-not-0 (node_room n) = omega arith
-refusal-not-0 (property_room n) = omega arith
-refusal-not-0 nothing_found = omega arith
-refusal-not-0 missing0 = omega arith
-refusal-not-0 too_short = omega arith
-refusal-not-0 not_usable = omega arith
+refusal_not_0 invalid_magic_number = omega arith
+refusal_not_0 size_mismatch = omega arith
+refusal_not_0 unexpected_end_of_input = omega arith
+refusal_not_0 (parse_error p) = omega arith
+refusal_not_0 utf8_error = omega arith
+refusal_not_0 version_not_supported = omega arith
+refusal_not_0 (too_deep p) = omega arith
+refusal_not_0 (reservation_room n) = omega arith
+refusal_not_0 (node_room n) = omega arith
+refusal_not_0 (property_room n) = omega arith
+refusal_not_0 nothing_found = omega arith
+refusal_not_0 missing0 = omega arith
+refusal_not_0 too_short = omega arith
+refusal_not_0 not_usable = omega arith
 
 -- ---- the numbers of an answer determine it, where what a value carries determines the value
 
@@ -142,15 +142,15 @@ module _ {A : Type 0} (carries : A → List ℕ) (back : List ℕ → A) (whole 
   decoded (refused too_short) = refl
   decoded (refused not_usable) = refl
 
-  pub numbers-same : (m n : Outcome A) → numbers carries m ≡ numbers carries n → m ≡ n
-  numbers-same m n e = sym (decoded m) ∙ ap decode e ∙ decoded n
+  pub numbers_same : (m n : Outcome A) → numbers carries m ≡ numbers carries n → m ≡ n
+  numbers_same m n e = sym (decoded m) ∙ ap decode e ∙ decoded n
 
-pub itself-same : (m n : Outcome ℕ) → numbers itself m ≡ numbers itself n → m ≡ n
+pub itself_same : (m n : Outcome ℕ) → numbers itself m ≡ numbers itself n → m ≡ n
 unfolding itself carried
-itself-same = numbers-same itself carried (λ n. refl)
+itself_same = numbers_same itself carried (λ n. refl)
 
-pub nothing-same : (m n : Outcome (Unit {0})) → numbers nothing m ≡ numbers nothing n → m ≡ n
-nothing-same = numbers-same nothing (λ ns. tt) (λ u. refl)
+pub nothing_same : (m n : Outcome (Unit {0})) → numbers nothing m ≡ numbers nothing n → m ≡ n
+nothing_same = numbers_same nothing (λ ns. tt) (λ u. refl)
 
 span_back : List ℕ → Span
 span_back [] = record { offset = 0; size = 0 }
@@ -158,10 +158,10 @@ span_back (n ∷ ns) = record { offset = n; size = carried ns }
 
 pub place_same : (m n : Outcome Span) → numbers place m ≡ numbers place n → m ≡ n
 unfolding place span_back carried
-place_same = numbers-same place span_back (λ s. refl)
+place_same = numbers_same place span_back (λ s. refl)
 
 -- the numbers of a refusal are a refusal's, whatever a value carries
-pub numbers-refused : {A : Type 0} (carries : A → List ℕ) (m : Outcome A) (r : Refusal) → numbers carries m ≡ refusal_numbers r → m ≡ refused r
+pub numbers_refused : {A : Type 0} (carries : A → List ℕ) (m : Outcome A) (r : Refusal) → numbers carries m ≡ refusal_numbers r → m ≡ refused r
 unfolding numbers first
-numbers-refused carries (ok a) r e = absurd (refusal-not-0 r (sym (ap first e)))
-numbers-refused carries (refused s) r e = ap refused (refused-same (nothing-same (refused s) (refused r) e))
+numbers_refused carries (ok a) r e = absurd (refusal_not_0 r (sym (ap first e)))
+numbers_refused carries (refused s) r e = ap refused (refused_same (nothing_same (refused s) (refused r) e))

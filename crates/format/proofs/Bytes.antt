@@ -17,18 +17,18 @@ number_append high [] ys = refl
 number_append high (x ∷ xs) ys = number_append (high * 256 + x) xs ys
 
 -- the bytes of a number stand for it
-pub number-bytes : (k n : ℕ) → 0 < k → number 0 (big_endian k n) ≡ n
+pub number_bytes : (k n : ℕ) → 0 < k → number 0 (big_endian k n) ≡ n
 unfolding big_endian number
-number-bytes zero n h = absurd (omega arith)
-number-bytes (suc zero) n h = omega arith
-number-bytes (suc (suc k)) n h =
-    number_append 0 (big_endian (suc k) (n / 256)) (n % 256 ∷ []) ∙ ap (λ m. m * 256 + n % 256) (number-bytes (suc k) (n / 256) (omega arith)) ∙ omega arith
+number_bytes zero n h = absurd (omega arith)
+number_bytes (suc zero) n h = omega arith
+number_bytes (suc (suc k)) n h =
+    number_append 0 (big_endian (suc k) (n / 256)) (n % 256 ∷ []) ∙ ap (λ m. m * 256 + n % 256) (number_bytes (suc k) (n / 256) (omega arith)) ∙ omega arith
 
-pub length-bytes : (k n : ℕ) → length (big_endian k n) ≡ k
+pub length_bytes : (k n : ℕ) → length (big_endian k n) ≡ k
 unfolding big_endian
-length-bytes zero n = refl
-length-bytes (suc zero) n = refl
-length-bytes (suc (suc k)) n = length-append (big_endian (suc k) (n / 256)) _ ∙ rw (length-bytes (suc k) (n / 256)) (omega arith)
+length_bytes zero n = refl
+length_bytes (suc zero) n = refl
+length_bytes (suc (suc k)) n = length-append (big_endian (suc k) (n / 256)) _ ∙ rw (length_bytes (suc k) (n / 256)) (omega arith)
 
 last_byte : (j high x : ℕ) → x < 256 → big_endian (suc (suc j)) (high * 256 + x) ≡ big_endian (suc j) high ++ x ∷ []
 unfolding big_endian
@@ -49,10 +49,10 @@ bytes_after j high (x ∷ xs) all =
     ∙ append_assoc (big_endian (suc j) high) (x ∷ []) xs
 
 -- bytes are the bytes of the number that they stand for
-pub bytes-number : (xs : List ℕ) → Below 256 xs → 0 < length xs → big_endian (length xs) (number 0 xs) ≡ xs
+pub bytes_number : (xs : List ℕ) → Below 256 xs → 0 < length xs → big_endian (length xs) (number 0 xs) ≡ xs
 unfolding number Below big_endian
-bytes-number [] all h = absurd (omega arith)
-bytes-number (x ∷ xs) all h =
+bytes_number [] all h = absurd (omega arith)
+bytes_number (x ∷ xs) all h =
     let e : suc (length xs) ≡ length xs + 1 = omega arith in
     let z : 0 * 256 + x ≡ x = omega arith in
     ap (λ k. big_endian k (number (0 * 256 + x) xs)) e ∙ bytes_after 0 (0 * 256 + x) xs all.1 ∙ rw (big_endian, z)
@@ -73,26 +73,26 @@ unfolding AreBytes Below
 bytes_below [] all = tt
 bytes_below (x ∷ l) all = (all 0, bytes_below l (λ i. all (suc i)))
 
-below-take : (n k : ℕ) (l : List ℕ) → Below n l → Below n (take k l)
+below_take : (n k : ℕ) (l : List ℕ) → Below n l → Below n (take k l)
 unfolding Below
-below-take n zero l h = tt
-below-take n (suc k) [] h = tt
-below-take n (suc k) (x ∷ l) h = (h.0, below-take n k l h.1)
+below_take n zero l h = tt
+below_take n (suc k) [] h = tt
+below_take n (suc k) (x ∷ l) h = (h.0, below_take n k l h.1)
 
-below-drop : (n k : ℕ) (l : List ℕ) → Below n l → Below n (drop k l)
+below_drop : (n k : ℕ) (l : List ℕ) → Below n l → Below n (drop k l)
 unfolding Below
-below-drop n zero l h = h
-below-drop n (suc k) [] h = tt
-below-drop n (suc k) (x ∷ l) h = below-drop n k l h.1
+below_drop n zero l h = h
+below_drop n (suc k) [] h = tt
+below_drop n (suc k) (x ∷ l) h = below_drop n k l h.1
 
-pub below-append : (n : ℕ) (xs ys : List ℕ) → Below n xs → Below n ys → Below n (xs ++ ys)
+pub below_append : (n : ℕ) (xs ys : List ℕ) → Below n xs → Below n ys → Below n (xs ++ ys)
 unfolding Below
-below-append n [] ys h k = k
-below-append n (x ∷ xs) ys h k = (h.0, below-append n xs ys h.1 k)
+below_append n [] ys h k = k
+below_append n (x ∷ xs) ys h k = (h.0, below_append n xs ys h.1 k)
 
-pub part-below : (b : List ℕ) (p k : ℕ) → AreBytes b → Below 256 (part b p k)
+pub part_below : (b : List ℕ) (p k : ℕ) → AreBytes b → Below 256 (part b p k)
 unfolding part
-part-below b p k all = below-take 256 k (drop p b) (below-drop 256 p b (bytes_below b all))
+part_below b p k all = below_take 256 k (drop p b) (below_drop 256 p b (bytes_below b all))
 
 pub part_length : (b : List ℕ) (p k : ℕ) → p + k ≤ length b → length (part b p k) ≡ k
 unfolding part
@@ -104,9 +104,9 @@ module _ (b : List ℕ) where
   unfolding part
   has_rest p {xs} h = sym (take-append-drop (length xs) (drop p b)) ∙ rw h.same
 
-  pub has-front : (p : ℕ) (xs rest : List ℕ) → 0 < length xs → drop p b ≡ xs ++ rest → Has b p xs
+  pub has_front : (p : ℕ) (xs rest : List ℕ) → 0 < length xs → drop p b ≡ xs ++ rest → Has b p xs
   unfolding part
-  has-front p xs rest pos e =
+  has_front p xs rest pos e =
       let sizes = simp (length-drop, length-append) at (ap length e) in
       record { fits = omega arith; same = rw e (take-append_seam xs rest) }
 
@@ -116,9 +116,9 @@ unfolding part
 has_left b p xs ys h = rw (has_rest b p h, append_assoc) (take-append_seam xs _)
 
 -- what stands in the front of a blob stands in the blob
-pub has-front-of : (b : List ℕ) (e p : ℕ) (xs : List ℕ) → Has (take e b) p xs → Has b p xs
+pub has_front_of : (b : List ℕ) (e p : ℕ) (xs : List ℕ) → Has (take e b) p xs → Has b p xs
 unfolding part
-has-front-of b e p xs h =
+has_front_of b e p xs h =
     let whole : drop p b ≡ (xs ++ drop (length xs) (drop p (take e b))) ++ drop e b =
     ap (drop p) (sym (take-append-drop e b)) ∙ drop-append-le p (take e b) (drop e b) (omega (arith, h.fits)) ∙ ap (λ l. l ++ drop e b) (has_rest (take e b) p h) in
     record {
@@ -127,21 +127,21 @@ has-front-of b e p xs h =
     }
 
 -- the number that bytes at p stand for
-pub value-is : (b : List ℕ) (p k n : ℕ) → 0 < k → Has b p (big_endian k n) → value_at k b p ≡ n
+pub value_is : (b : List ℕ) (p k n : ℕ) → 0 < k → Has b p (big_endian k n) → value_at k b p ≡ n
 unfolding value_at
-value-is b p k n pos h = ap (number 0) (rw (length-bytes k n) at h.same) ∙ number-bytes k n pos
+value_is b p k n pos h = ap (number 0) (rw (length_bytes k n) at h.same) ∙ number_bytes k n pos
 
 -- k bytes of a blob are the bytes of their number
-pub value-stands : (b : List ℕ) (p k : ℕ) → AreBytes b → 0 < k → p + k ≤ length b → Has b p (big_endian k (value_at k b p))
+pub value_stands : (b : List ℕ) (p k : ℕ) → AreBytes b → 0 < k → p + k ≤ length b → Has b p (big_endian k (value_at k b p))
 unfolding value_at
-value-stands b p k all pos fits =
+value_stands b p k all pos fits =
     let size = part_length b p k fits in
-    let same : big_endian k (number 0 (part b p k)) ≡ part b p k = rw size at (bytes-number (part b p k) (part-below b p k all) (rw size pos)) in
-    record { fits = rw (length-bytes k (number 0 (part b p k))) fits; same = rw (length-bytes k (number 0 (part b p k))) (sym same) }
+    let same : big_endian k (number 0 (part b p k)) ≡ part b p k = rw size at (bytes_number (part b p k) (part_below b p k all) (rw size pos)) in
+    record { fits = rw (length_bytes k (number 0 (part b p k))) fits; same = rw (length_bytes k (number 0 (part b p k))) (sym same) }
 
-pub value-small : (b : List ℕ) (p k : ℕ) → AreBytes b → p + k ≤ length b → value_at k b p < 256 ^ k
+pub value_small : (b : List ℕ) (p k : ℕ) → AreBytes b → p + k ≤ length b → value_at k b p < 256 ^ k
 unfolding value_at
-value-small b p k all fits = omega (arith, rw (part_length b p k fits) at (number_small 0 (part b p k) (part-below b p k all)), one-mul (256 ^ k))
+value_small b p k all fits = omega (arith, rw (part_length b p k fits) at (number_small 0 (part b p k) (part_below b p k all)), one-mul (256 ^ k))
 
 -- ---- rounding up
 
@@ -162,8 +162,8 @@ align_more val to h n =
     let m : to - val % to < to = omega (arith, n) in
     simp (mod-eq_of_lt m)
 
-pub align-rounds : (val to : ℕ) → 0 < to → RoundedUp val to (align val to)
-align-rounds val to pos = elim (ℕ_discrete (val % to) 0) [
+pub align_rounds : (val to : ℕ) → 0 < to → RoundedUp val to (align val to)
+align_rounds val to pos = elim (ℕ_discrete (val % to) 0) [
   | yes e ↦ rw (align_same val to e) (record { multiple = e; above = omega arith; near = omega arith })
   | no n ↦ rw (align_more val to pos n) (record { multiple = whole; above = omega arith; near = omega (arith, n) })
 ]
@@ -177,10 +177,10 @@ align-rounds val to pos = elim (ℕ_discrete (val % to) 0) [
         let e : val % to + (to - val % to) ≡ to = omega (arith, less) in
         sym (mod-add-mod val to (to - val % to)) ∙ ap (λ k. k % to) e ∙ mod_self to
 
-pub align-up : (p : ℕ) → p ≤ align p 4
+pub align_up : (p : ℕ) → p ≤ align p 4
 unfolding align
-align-up p = omega arith
+align_up p = omega arith
 
-pub align-near : (p : ℕ) → align p 4 < p + 4
+pub align_near : (p : ℕ) → align p 4 < p + 4
 unfolding align
-align-near p = omega arith
+align_near p = omega arith

@@ -20,8 +20,8 @@ use Rattle.format.specs.Lookup.{link_good, links_good, name_inside, name_at, acr
 use Rattle.format.specs.Agrees.{used}
 use Rattle.format.specs.Cases.{words, S, lent, Case, cases, after_load, said}
 use Rattle.format.proofs.Tools.{both}
-use Rattle.format.proofs.Answer.{then_ok, then-refused, check-no, refusal-not-0}
-use Rattle.format.proofs.Read.{read-there}
+use Rattle.format.proofs.Answer.{then_ok, then_refused, check_no, refusal_not_0}
+use Rattle.format.proofs.Read.{read_there}
 use Rattle.format.proofs.Load.{accepted}
 
 -- The one claim.
@@ -30,9 +30,9 @@ unfolding said after_load cases S words lent used big_endian part number value_a
 starred = refl
 
 -- "Four bytes other than the magic": whatever they are, and whatever follows.
-pub not-magic : (rules : Rules) (b : List ℕ) → 4 ≤ length b → word_at b magic_at ≢ magic → load rules b ≡ refused invalid_magic_number
+pub not_magic : (rules : Rules) (b : List ℕ) → 4 ≤ length b → word_at b magic_at ≢ magic → load rules b ≡ refused invalid_magic_number
 unfolding load load_within header
-not-magic rules b h n = then-refused _ _ (then_ok _ _ (read-there b 4 magic_at h) (then-refused _ _ (check-no _ (ne_eqb (word_at b magic_at) magic n))))
+not_magic rules b h n = then_refused _ _ (then_ok _ _ (read_there b 4 magic_at h) (then_refused _ _ (check_no _ (ne_eqb (word_at b magic_at) magic n))))
 
 -- ---- acceptance is not empty: S encodes a tree, and is accepted
 
@@ -40,15 +40,15 @@ bytes_all : List ℕ → Bool
 bytes_all [] = true
 bytes_all (x ∷ xs) = ltb x 256 && bytes_all xs
 
-are-bytes : (l : List ℕ) → bytes_all l ≡ true → AreBytes l
+are_bytes : (l : List ℕ) → bytes_all l ≡ true → AreBytes l
 unfolding bytes_all AreBytes
-are-bytes [] e i = omega arith
-are-bytes (x ∷ l) e zero = ltb-true _ _ (both _ _ e).0
-are-bytes (x ∷ l) e (suc i) = are-bytes l (both (ltb x 256) (bytes_all l) e).1 i
+are_bytes [] e i = omega arith
+are_bytes (x ∷ l) e zero = ltb-true _ _ (both _ _ e).0
+are_bytes (x ∷ l) e (suc i) = are_bytes l (both (ltb x 256) (bytes_all l) e).1 i
 
 S-bytes : AreBytes S
 unfolding bytes_all S words big_endian
-S-bytes = are-bytes S refl
+S-bytes = are_bytes S refl
 
 pub record SomeTree : Type 0 where
   pub tree : Tree
@@ -64,4 +64,4 @@ S-accepted = go (into.load lent S) refl S-answer
   where
     go : (m : Outcome Tree) → into.load lent S ≡ m → first (numbers tree_numbers m) ≡ 0 → SomeTree
     go (ok t) e h = record { tree = t; is = (accepted lent S S-bytes t).0 e }
-    go (refused r) e h = absurd (refusal-not-0 r h)
+    go (refused r) e h = absurd (refusal_not_0 r h)

@@ -12,24 +12,24 @@ use Rattle.format.specs.Agrees.{bytes_in}
 use Rattle.format.proofs.Tools.{both, if-went}
 use Rattle.format.proofs.Answer.{never, ok_same, step}
 
-among-inside : (b : List ℕ) (P : List PropertyRow) (n k : ℕ) (name : List ℕ) (s : Span) → among b P n k name ≡ ok s → s.offset + s.size ≤ length b
+among_inside : (b : List ℕ) (P : List PropertyRow) (n k : ℕ) (name : List ℕ) (s : Span) → among b P n k name ≡ ok s → s.offset + s.size ≤ length b
 unfolding among parts_inside value_span
-among-inside b P zero k name s e = absurd (never e)
-among-inside b P (suc n) k name s e =
+among_inside b P zero k name s e = absurd (never e)
+among_inside b P (suc n) k name s e =
     if-went _ _ _ e
     (λ inside e. if-went _ _ _ e
     (λ _ e. let is = ok_same e in rw (← is) (leb-true _ _ (both (leb ((property_at P k).name_offset + (property_at P k).name_length) (length b)) (leb ((property_at P k).value_offset + (property_at P k).value_length) (length b)) inside).1))
-    (λ _ e. among-inside b P n (k + 1) name s e))
+    (λ _ e. among_inside b P n (k + 1) name s e))
     (λ _ e. absurd (never e))
 
 module _ (b : List ℕ) (l : Lent) (row : ℕ) (name : List ℕ) where
-  pub raw-inside : (s : Span) → prop_raw b l row name ≡ ok s → s.offset + s.size ≤ length b
+  pub raw_inside : (s : Span) → prop_raw b l row name ≡ ok s → s.offset + s.size ≤ length b
   unfolding prop_raw property_of
-  raw-inside s e = step _ _ e λ _ _ e. step _ _ e λ _ _ e. among-inside b (properties_in l.property_count l.properties) _ _ name s e
+  raw_inside s e = step _ _ e λ _ _ e. step _ _ e λ _ _ e. among_inside b (properties_in l.property_count l.properties) _ _ name s e
 
-  pub str-inside : (s : Span) → prop_str b l row name ≡ ok s → s.offset + s.size ≤ length b
+  pub str_inside : (s : Span) → prop_str b l row name ≡ ok s → s.offset + s.size ≤ length b
   unfolding prop_str as_string bytes_of part
-  str-inside s e =
+  str_inside s e =
       step _ _ e λ value raw e.
       step _ _ e λ text is e.
       step _ _ is λ _ _ is.
@@ -37,13 +37,13 @@ module _ (b : List ℕ) (l : Lent) (row : ℕ) (name : List ℕ) where
       let v : List ℕ = take value.size (drop value.offset b) in
       let short : length v ≤ value.size = omega (arith, length-take value.size (drop value.offset b)) in
       let size : length text ≤ length v = rw (← ok_same is) (omega (arith, length-take (length v - 1) v)) in
-      rw (← ok_same e) (omega (arith, raw-inside value raw))
+      rw (← ok_same e) (omega (arith, raw_inside value raw))
 
 -- the part that a span is of the blob, and none where there is no span
-pub bytes-there : (b : List ℕ) {m : Outcome Span} {p n : ℕ} → m ≡ ok (record { offset = p; size = n }) → (k : ℕ) → k ≡ n → take k (drop p b) ≡ or_empty (bytes_in b m)
+pub bytes_there : (b : List ℕ) {m : Outcome Span} {p n : ℕ} → m ≡ ok (record { offset = p; size = n }) → (k : ℕ) → k ≡ n → take k (drop p b) ≡ or_empty (bytes_in b m)
 unfolding or_empty bytes_in ◌>>=◌ bytes_of part
-bytes-there b e k i = rw (e, i)
+bytes_there b e k i = rw (e, i)
 
-pub bytes-none : (b : List ℕ) {m : Outcome Span} {r : Refusal} → m ≡ refused r → [] ≡ or_empty (bytes_in b m)
+pub bytes_none : (b : List ℕ) {m : Outcome Span} {r : Refusal} → m ≡ refused r → [] ≡ or_empty (bytes_in b m)
 unfolding or_empty bytes_in ◌>>=◌
-bytes-none b e = rw e
+bytes_none b e = rw e

@@ -12,7 +12,7 @@ use Rattle.format.specs.Find.{head, rest, same}
 use Rattle.format.specs.Lookup.{link_good, links_good, name_inside, name_at, across, compared, compared_from}
 use Rattle.format.specs.Shape.{count}
 use Rattle.format.proofs.Tools.{both, never_both, tested}
-use Rattle.format.proofs.Lookup.{across-other, across-here, across-below, across-none, across-bad}
+use Rattle.format.proofs.Lookup.{across_other, across_here, across_below, across_none, across_bad}
 
 -- ---- turns enough
 
@@ -46,8 +46,8 @@ module _ (b : List ℕ) (R : List NodeRow) where
   abbrev pub Enough : ℕ → ℕ → Type 0
   Enough turns r = (0 < turns) × (r ≢ NONE → length R < r + turns)
 
-  pub next-enough : (f r l : ℕ) → Here r → Enough (suc f) r → link_good R r l ≡ true → Enough f l
-  next-enough f r l inside h e =
+  pub next_enough : (f r l : ℕ) → Here r → Enough (suc f) r → link_good R r l ≡ true → Enough f l
+  next_enough f r l inside h e =
       let step : (0 < f) × (length R < r + suc f) = (omega (arith, h.1 inside.some, inside.inside), h.1 inside.some) in
       ⊎_elim (λ same. (step.0, λ other. absurd (other same))) (λ k. (step.0, λ other. omega (arith, k.above, k.inside, step.1))) (follows r l e)
 
@@ -55,54 +55,54 @@ module _ (b : List ℕ) (R : List NodeRow) where
   abbrev pub Same : ℕ → ℕ → Type 0
   Same f g = (l : ℕ) (first later : List ℕ) → (l ≡ NONE) ⊎ Here l → Enough f l → Enough g l → across b R f l first later ≡ across b R g l first later
 
-  pub links-of : (r : ℕ) → links_good R r ≡ true → (link_good R r (at R r).first_child ≡ true) × (link_good R r (at R r).next_sibling ≡ true)
+  pub links_of : (r : ℕ) → links_good R r ≡ true → (link_good R r (at R r).first_child ≡ true) × (link_good R r (at R r).next_sibling ≡ true)
   unfolding links_good
-  links-of r e = both (link_good R r (at R r).first_child) (link_good R r (at R r).next_sibling) e
+  links_of r e = both (link_good R r (at R r).first_child) (link_good R r (at R r).next_sibling) e
 
-  pub links-good : (r : ℕ) → (links_good R r && name_inside b R r) ≡ true
+  pub links_good_lem : (r : ℕ) → (links_good R r && name_inside b R r) ≡ true
       → (link_good R r (at R r).first_child ≡ true) × (link_good R r (at R r).next_sibling ≡ true)
-  links-good r e = links-of r (both (links_good R r) (name_inside b R r) e).0
+  links_good_lem r e = links_of r (both (links_good R r) (name_inside b R r) e).0
 
   good_turn : (f g r : ℕ) (first : List ℕ) → Here r → Enough (suc f) r → Enough (suc g) r → Same f g
       → (good : (links_good R r && name_inside b R r) ≡ true) → (t : Bool) → same (name_at b R r) first ≡ t
       → (later : List ℕ) → across b R (suc f) r first later ≡ across b R (suc g) r first later
   good_turn f g r first inside hf hg ih good false e later =
-      let link = (links-good r good).1 in
+      let link = (links_good_lem r good).1 in
       let l = (at R r).next_sibling in
-      across-other b R f r first inside.some good later e
-      ∙ ih l first later (led r l link) (next-enough f r l inside hf link) (next-enough g r l inside hg link)
-      ∙ sym (across-other b R g r first inside.some good later e)
-  good_turn f g r first inside hf hg ih good true e [] = across-here b R f r first inside.some good e ∙ sym (across-here b R g r first inside.some good e)
+      across_other b R f r first inside.some good later e
+      ∙ ih l first later (led r l link) (next_enough f r l inside hf link) (next_enough g r l inside hg link)
+      ∙ sym (across_other b R g r first inside.some good later e)
+  good_turn f g r first inside hf hg ih good true e [] = across_here b R f r first inside.some good e ∙ sym (across_here b R g r first inside.some good e)
   good_turn f g r first inside hf hg ih good true e (c ∷ s) =
-      let link = (links-good r good).0 in
+      let link = (links_good_lem r good).0 in
       let l = (at R r).first_child in
-      across-below b R f r first inside.some good c s e
-      ∙ ih l (head (c ∷ s)) (rest (c ∷ s)) (led r l link) (next-enough f r l inside hf link) (next-enough g r l inside hg link)
-      ∙ sym (across-below b R g r first inside.some good c s e)
+      across_below b R f r first inside.some good c s e
+      ∙ ih l (head (c ∷ s)) (rest (c ∷ s)) (led r l link) (next_enough f r l inside hf link) (next_enough g r l inside hg link)
+      ∙ sym (across_below b R g r first inside.some good c s e)
 
-  row-turn : (f g r : ℕ) (first later : List ℕ) → Here r → Enough (suc f) r → Enough (suc g) r → Same f g
+  row_turn : (f g r : ℕ) (first later : List ℕ) → Here r → Enough (suc f) r → Enough (suc g) r → Same f g
       → (t : Bool) → (links_good R r && name_inside b R r) ≡ t → across b R (suc f) r first later ≡ across b R (suc g) r first later
-  row-turn f g r first later inside hf hg ih false e = across-bad b R f r first later inside.some e ∙ sym (across-bad b R g r first later inside.some e)
-  row-turn f g r first later inside hf hg ih true e = good_turn f g r first inside hf hg ih e (same (name_at b R r) first) refl later
+  row_turn f g r first later inside hf hg ih false e = across_bad b R f r first later inside.some e ∙ sym (across_bad b R g r first later inside.some e)
+  row_turn f g r first later inside hf hg ih true e = good_turn f g r first inside hf hg ih e (same (name_at b R r) first) refl later
 
   -- Any number of turns that is large enough gives the same answer: `across` never runs out.
-  pub turns-enough : (f g : ℕ) → Same f g
-  turns-enough zero g r first later at-r hf hg = absurd (omega arith)
-  turns-enough (suc f) zero r first later at-r hf hg = absurd (omega arith)
-  turns-enough (suc f) (suc g) r first later at-r hf hg =
-      ⊎_elim (λ e. rw e (across-none b R f first later ∙ sym (across-none b R g first later)))
-      (λ inside. row-turn f g r first later inside hf hg (turns-enough f g) (links_good R r && name_inside b R r) refl)
+  pub turns_enough : (f g : ℕ) → Same f g
+  turns_enough zero g r first later at-r hf hg = absurd (omega arith)
+  turns_enough (suc f) zero r first later at-r hf hg = absurd (omega arith)
+  turns_enough (suc f) (suc g) r first later at-r hf hg =
+      ⊎_elim (λ e. rw e (across_none b R f first later ∙ sym (across_none b R g first later)))
+      (λ inside. row_turn f g r first later inside hf hg (turns_enough f g) (links_good R r && name_inside b R r) refl)
       at-r
 
   -- So as many turns as there are rows are enough: more change nothing.
-  pub more-turns : (r turns : ℕ) (first later : List ℕ) → r < length R → links_good R r ≡ true → length R ≤ turns
+  pub more_turns : (r turns : ℕ) (first later : List ℕ) → r < length R → links_good R r ≡ true → length R ≤ turns
       → across b R turns (at R r).first_child first later ≡ across b R (length R) (at R r).first_child first later
   unfolding links_good
-  more-turns r turns first later inside good h =
+  more_turns r turns first later inside good h =
       let l : ℕ = (at R r).first_child in
       ⊎_elim
-      (λ e. turns-enough turns (length R) l first later (inl e) (omega arith, λ some. absurd (some e)) (omega arith, λ some. absurd (some e)))
-      (λ k. turns-enough turns (length R) l first later (inr (record { inside = k.inside; some = k.some })) (omega arith, λ _. omega (arith, k.above)) (omega arith, λ _. omega (arith, k.above)))
+      (λ e. turns_enough turns (length R) l first later (inl e) (omega arith, λ some. absurd (some e)) (omega arith, λ some. absurd (some e)))
+      (λ k. turns_enough turns (length R) l first later (inr (record { inside = k.inside; some = k.some })) (omega arith, λ _. omega (arith, k.above)) (omega arith, λ _. omega (arith, k.above)))
       (follows r l (both _ _ good).0)
 
 -- ---- the rows compared
@@ -112,10 +112,10 @@ unfoldable Rising : ℕ → List ℕ → Type 0
 Rising low [] = Unit {0}
 Rising low (x ∷ xs) = (low ≤ x) × Rising (suc x) xs
 
-if-rising : (low : ℕ) (t : Bool) (x y : List ℕ) → (t ≡ true → Rising low x) → (t ≡ false → Rising low y) → Rising low (if t then x else y)
+if_rising : (low : ℕ) (t : Bool) (x y : List ℕ) → (t ≡ true → Rising low x) → (t ≡ false → Rising low y) → Rising low (if t then x else y)
 unfolding if◌then◌else◌
-if-rising low true x y f g = f refl
-if-rising low false x y f g = g refl
+if_rising low true x y f g = f refl
+if_rising low false x y f g = g refl
 
 -- numbers that rise are all different
 rising_none : (low x : ℕ) (xs : List ℕ) → Rising low xs → x < low → count x xs ≡ 0
@@ -123,13 +123,13 @@ unfolding Rising count if◌then◌else◌
 rising_none low x [] h l = refl
 rising_none low x (y ∷ ys) h l = rw (ne_eqb x y (omega (arith, h.0)), rising_none (suc y) x ys h.1 (omega (arith, h.0)))
 
-rising-once : (low x : ℕ) (xs : List ℕ) → Rising low xs → count x xs ≤ 1
+rising_once : (low x : ℕ) (xs : List ℕ) → Rising low xs → count x xs ≤ 1
 unfolding Rising count if◌then◌else◌
-rising-once low x [] h = omega arith
-rising-once low x (y ∷ ys) h =
+rising_once low x [] h = omega arith
+rising_once low x (y ∷ ys) h =
     tested (eqb x y)
     (λ e. rw (e, rising_none (suc y) x ys h.1 (omega (arith, eqb-true x y e))) (omega arith))
-    (λ e. rw e (omega (arith, rising-once (suc y) x ys h.1)))
+    (λ e. rw e (omega (arith, rising_once (suc y) x ys h.1)))
 
 module _ (b : List ℕ) (R : List NodeRow) where
   -- a link that is none, or goes on from low
@@ -150,22 +150,22 @@ module _ (b : List ℕ) (R : List NodeRow) where
   unfolding compared Rising
   rises zero low r first later h = tt
   rises (suc turns) low r first later h =
-      if-rising low (eqb r NONE) _ _ (λ e. tt) λ other.
-      if-rising low (links_good R r && name_inside b R r) _ _
+      if_rising low (eqb r NONE) _ _ (λ e. tt) λ other.
+      if_rising low (links_good R r && name_inside b R r) _ _
       (λ good.
-      let links = links-good b R r good in (
+      let links = links_good_lem b R r good in (
         ⊎_elim (λ e. absurd (never_both other (eq-eqb r NONE e))) (λ l. l) h,
-        if-rising (suc r) (same (name_at b R r) first) _ _
+        if_rising (suc r) (same (name_at b R r) first) _ _
             (λ e. below turns r (λ low r first later h. rises turns low r first later h) later (leads r _ links.0))
             (λ e. rises turns (suc r) (at R r).next_sibling first later (leads r _ links.1)),
       ))
       (λ bad. tt)
 
   -- Whatever the rows hold, no row is compared twice.
-  pub compared-once : (turns r x : ℕ) (first later : List ℕ) → count x (compared b R turns r first later) ≤ 1
-  compared-once turns r x first later = rising-once 0 x _ (rises turns 0 r first later (inr (omega arith)))
+  pub compared_once : (turns r x : ℕ) (first later : List ℕ) → count x (compared b R turns r first later) ≤ 1
+  compared_once turns r x first later = rising_once 0 x _ (rises turns 0 r first later (inr (omega arith)))
 
-  pub path-compares-once : (r x : ℕ) (path : List ℕ) → count x (compared_from b R r path) ≤ 1
+  pub path_compares_once : (r x : ℕ) (path : List ℕ) → count x (compared_from b R r path) ≤ 1
   unfolding compared_from count
-  path-compares-once r x [] = omega arith
-  path-compares-once r x (c ∷ path) = compared-once (length R) (at R r).first_child x (head (c ∷ path)) (rest (c ∷ path))
+  path_compares_once r x [] = omega arith
+  path_compares_once r x (c ∷ path) = compared_once (length R) (at R r).first_child x (head (c ∷ path)) (rest (c ∷ path))

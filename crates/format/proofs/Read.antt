@@ -9,46 +9,46 @@ use borrow.Author.Tests.{leb-true, ltb-true, le-leb, lt-leb, lt-ltb}
 use Rattle.format.specs.Bytes.{part, Has, big_endian, word, long, value_at, AreBytes, NoZero}
 use Rattle.format.specs.Answer.{unexpected_end_of_input, ok, refused}
 use Rattle.format.specs.Read.{read_be, read_be_u32, read_be_u64, until_zero, read_bstring0, subslice}
-use Rattle.format.proofs.Answer.{never, ok_same, step, then_ok, then-refused, check-ok, check-no, checked}
-use Rattle.format.proofs.Bytes.{length-bytes, value-is, value-stands, has_rest, has-front}
+use Rattle.format.proofs.Answer.{never, ok_same, step, then_ok, then_refused, check_ok, check_no, checked}
+use Rattle.format.proofs.Bytes.{length_bytes, value_is, value_stands, has_rest, has_front}
 
 -- ---- numbers, at every width
 
 module _ (b : List ℕ) (k p : ℕ) where
-  pub read-there : p + k ≤ length b → read_be k b p ≡ ok (value_at k b p)
+  pub read_there : p + k ≤ length b → read_be k b p ≡ ok (value_at k b p)
   unfolding read_be
-  read-there h = then_ok _ _ (check-ok _ (le-leb (p + k) (length b) h)) refl
+  read_there h = then_ok _ _ (check_ok _ (le-leb (p + k) (length b) h)) refl
 
-  pub read-past-end : length b < p + k → read_be k b p ≡ refused unexpected_end_of_input
+  pub read_past_end : length b < p + k → read_be k b p ≡ refused unexpected_end_of_input
   unfolding read_be
-  read-past-end h = then-refused _ _ (check-no _ (lt-leb (p + k) (length b) h))
+  read_past_end h = then_refused _ _ (check_no _ (lt-leb (p + k) (length b) h))
 
-  pub read-inside : {n : ℕ} → read_be k b p ≡ ok n → p + k ≤ length b
+  pub read_inside : {n : ℕ} → read_be k b p ≡ ok n → p + k ≤ length b
   unfolding read_be
-  read-inside e = step _ _ e λ _ h e. leb-true _ _ (checked _ _ h)
+  read_inside e = step _ _ e λ _ h e. leb-true _ _ (checked _ _ h)
 
 -- what stands at p is read, and what is read stands there
-pub read-value : (b : List ℕ) (k p : ℕ) {n : ℕ} → 0 < k → Has b p (big_endian k n) → read_be k b p ≡ ok n
-read-value b k p {n} pos h = read-there b k p (rw (length-bytes k n) at h.fits) ∙ ap ok (value-is b p k n pos h)
+pub read_value : (b : List ℕ) (k p : ℕ) {n : ℕ} → 0 < k → Has b p (big_endian k n) → read_be k b p ≡ ok n
+read_value b k p {n} pos h = read_there b k p (rw (length_bytes k n) at h.fits) ∙ ap ok (value_is b p k n pos h)
 
 pub value_read : (b : List ℕ) (k p : ℕ) → AreBytes b → 0 < k → {n : ℕ} → read_be k b p ≡ ok n → Has b p (big_endian k n)
 value_read b k p all pos {n} e =
-    let fits = read-inside b k p e in
-    let same : value_at k b p ≡ n = ok_same (sym (read-there b k p fits) ∙ e) in
-    rw same at (value-stands b p k all pos fits)
+    let fits = read_inside b k p e in
+    let same : value_at k b p ≡ n = ok_same (sym (read_there b k p fits) ∙ e) in
+    rw same at (value_stands b p k all pos fits)
 
 module _ (b : List ℕ) (p : ℕ) where
   pub read_word : {n : ℕ} → Has b p (word n) → read_be_u32 b p ≡ ok n
-  read_word h = read-value b 4 p (omega arith) h
+  read_word h = read_value b 4 p (omega arith) h
 
   pub word_read : AreBytes b → {n : ℕ} → read_be_u32 b p ≡ ok n → Has b p (word n)
   word_read all e = value_read b 4 p all (omega arith) e
 
-  pub read-long : {n : ℕ} → Has b p (long n) → read_be_u64 b p ≡ ok n
-  read-long h = read-value b 8 p (omega arith) h
+  pub read_long : {n : ℕ} → Has b p (long n) → read_be_u64 b p ≡ ok n
+  read_long h = read_value b 8 p (omega arith) h
 
-  pub long-read : AreBytes b → {n : ℕ} → read_be_u64 b p ≡ ok n → Has b p (long n)
-  long-read all e = value_read b 8 p all (omega arith) e
+  pub long_read : AreBytes b → {n : ℕ} → read_be_u64 b p ≡ ok n → Has b p (long n)
+  long_read all e = value_read b 8 p all (omega arith) e
 
 -- ---- strings
 
@@ -58,20 +58,20 @@ record Until (l xs : List ℕ) : Type 0 where
   rest : List ℕ
   split : l ≡ xs ++ 0 ∷ rest
 
-until-read : (l : List ℕ) {xs : List ℕ} → until_zero l ≡ ok xs → Until l xs
+until_read : (l : List ℕ) {xs : List ℕ} → until_zero l ≡ ok xs → Until l xs
 unfolding until_zero NoZero
-until-read [] e = absurd (never e)
-until-read (zero ∷ l) {xs} e = subst (Until (zero ∷ l)) (ok_same e) (record { nonzero = tt; rest = l; split = refl })
-until-read (suc x ∷ l) {xs} e =
+until_read [] e = absurd (never e)
+until_read (zero ∷ l) {xs} e = subst (Until (zero ∷ l)) (ok_same e) (record { nonzero = tt; rest = l; split = refl })
+until_read (suc x ∷ l) {xs} e =
     step _ _ e λ s hs e.
-    let ih = until-read l hs in
+    let ih = until_read l hs in
     subst (Until (suc x ∷ l)) (ok_same e) (record { nonzero = (omega arith, ih.nonzero); rest = ih.rest; split = ap (λ t. suc x ∷ t) ih.split })
 
-read-until : (xs rest : List ℕ) → NoZero xs → until_zero (xs ++ 0 ∷ rest) ≡ ok xs
+read_until : (xs rest : List ℕ) → NoZero xs → until_zero (xs ++ 0 ∷ rest) ≡ ok xs
 unfolding until_zero NoZero
-read-until [] rest h = refl
-read-until (zero ∷ xs) rest h = absurd (omega arith)
-read-until (suc x ∷ xs) rest h = then_ok _ _ (read-until xs rest h.1) refl
+read_until [] rest h = refl
+read_until (zero ∷ xs) rest h = absurd (omega arith)
+read_until (suc x ∷ xs) rest h = then_ok _ _ (read_until xs rest h.1) refl
 
 -- a string that stands at p
 pub record StringAt (b : List ℕ) (p : ℕ) (xs : List ℕ) : Type 0 where
@@ -79,28 +79,28 @@ pub record StringAt (b : List ℕ) (p : ℕ) (xs : List ℕ) : Type 0 where
   pub bytes : Has b p (xs ++ 0 ∷ [])
 
 module _ (b : List ℕ) (p : ℕ) where
-  pub read-string : {xs : List ℕ} → NoZero xs → Has b p (xs ++ 0 ∷ []) → read_bstring0 b p ≡ ok xs
+  pub read_string : {xs : List ℕ} → NoZero xs → Has b p (xs ++ 0 ∷ []) → read_bstring0 b p ≡ ok xs
   unfolding read_bstring0
-  read-string {xs} nz h = rw (has_rest b p h, append_assoc) (read-until xs _ nz)
+  read_string {xs} nz h = rw (has_rest b p h, append_assoc) (read_until xs _ nz)
 
-  pub string-read : {xs : List ℕ} → read_bstring0 b p ≡ ok xs → StringAt b p xs
+  pub string_read : {xs : List ℕ} → read_bstring0 b p ≡ ok xs → StringAt b p xs
   unfolding read_bstring0
-  string-read {xs} e =
-      let u = until-read (drop p b) e in
+  string_read {xs} e =
+      let u = until_read (drop p b) e in
       record {
         nonzero = u.nonzero;
-        bytes = has-front b p (xs ++ 0 ∷ []) u.rest (rw length-append (omega arith)) (u.split ∙ sym (append_assoc xs (0 ∷ []) u.rest));
+        bytes = has_front b p (xs ++ 0 ∷ []) u.rest (rw length-append (omega arith)) (u.split ∙ sym (append_assoc xs (0 ∷ []) u.rest));
       }
 
 -- ---- parts
 
 module _ (b : List ℕ) where
-  pub read-part : (p : ℕ) {xs : List ℕ} → Has b p xs → p + length xs < length b → subslice b p (p + length xs) ≡ ok xs
+  pub read_part : (p : ℕ) {xs : List ℕ} → Has b p xs → p + length xs < length b → subslice b p (p + length xs) ≡ ok xs
   unfolding subslice
-  read-part p {xs} h inside =
+  read_part p {xs} h inside =
       let e : p + length xs - p ≡ length xs = omega arith in
-      then_ok _ _ (check-ok _ (le-leb p (p + length xs) (omega arith)))
-      (then_ok _ _ (check-ok _ (lt-ltb (p + length xs) (length b) inside)) (ap ok (rw e h.same)))
+      then_ok _ _ (check_ok _ (le-leb p (p + length xs) (omega arith)))
+      (then_ok _ _ (check_ok _ (lt-ltb (p + length xs) (length b) inside)) (ap ok (rw e h.same)))
 
   -- the n bytes at p end before the blob's last
   pub record Inside (p n : ℕ) (xs : List ℕ) : Type 0 where
@@ -108,9 +108,9 @@ module _ (b : List ℕ) where
     pub bytes : Has b p xs
     pub ends : p + n < length b
 
-  pub part-read : (p n : ℕ) {xs : List ℕ} → subslice b p (p + n) ≡ ok xs → Inside p n xs
+  pub part_read : (p n : ℕ) {xs : List ℕ} → subslice b p (p + n) ≡ ok xs → Inside p n xs
   unfolding subslice part
-  part-read p n {xs} e =
+  part_read p n {xs} e =
       step _ _ e λ _ _ e.
       step _ _ e λ _ below e.
       let ends : p + n < length b = ltb-true _ _ (checked _ _ below) in

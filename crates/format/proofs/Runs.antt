@@ -15,17 +15,17 @@ module _ {A : Type 0} (R : List A) where
   pub whole : Run 0 R
   whole = record { fits = omega arith; rest = []; split = sym (append-nil R) }
 
-  pub run-head : (d : A) (k : ℕ) (x : A) (xs : List A) → Run k (x ∷ xs) → get_or R k d ≡ x
-  run-head d k x xs h = ap (λ i. get_or R i d) (omega arith) ∙ sym (get_or-drop k R 0 d) ∙ rw h.split
+  pub run_head : (d : A) (k : ℕ) (x : A) (xs : List A) → Run k (x ∷ xs) → get_or R k d ≡ x
+  run_head d k x xs h = ap (λ i. get_or R i d) (omega arith) ∙ sym (get_or-drop k R 0 d) ∙ rw h.split
 
-  pub run-tail : (k : ℕ) (x : A) (xs : List A) → Run k (x ∷ xs) → Run (k + 1) xs
-  run-tail k x xs h = record { fits = omega (arith, h.fits); rest = h.rest; split = sym (drop-drop 1 k R) ∙ rw h.split }
+  pub run_tail : (k : ℕ) (x : A) (xs : List A) → Run k (x ∷ xs) → Run (k + 1) xs
+  run_tail k x xs h = record { fits = omega (arith, h.fits); rest = h.rest; split = sym (drop-drop 1 k R) ∙ rw h.split }
 
-  pub run-left : (k : ℕ) (xs ys : List A) → Run k (xs ++ ys) → Run k xs
-  run-left k xs ys h = record { fits = omega (arith, h.fits, length-append xs ys); rest = ys ++ h.rest; split = h.split ∙ append_assoc xs ys h.rest }
+  pub run_left : (k : ℕ) (xs ys : List A) → Run k (xs ++ ys) → Run k xs
+  run_left k xs ys h = record { fits = omega (arith, h.fits, length-append xs ys); rest = ys ++ h.rest; split = h.split ∙ append_assoc xs ys h.rest }
 
-  pub run-right : (k : ℕ) (xs ys : List A) → Run k (xs ++ ys) → Run (k + length xs) ys
-  run-right k xs ys h = record {
+  pub run_right : (k : ℕ) (xs ys : List A) → Run k (xs ++ ys) → Run (k + length xs) ys
+  run_right k xs ys h = record {
     fits = omega (arith, h.fits, length-append xs ys);
     rest = h.rest;
     split = sym (drop-drop (length xs) k R) ∙ rw (h.split, append_assoc) (drop-append_seam xs (ys ++ h.rest));

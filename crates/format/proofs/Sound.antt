@@ -13,8 +13,8 @@ use Rattle.format.specs.Encodes.{GoodName, GoodProperties, GoodNode, GoodNodes, 
 use Rattle.format.specs.Read.{Read, property, properties, nodes, node_load, reservation, reservations, Header, header, body, load_within}
 use Rattle.format.proofs.Tools.{if-went}
 use Rattle.format.proofs.Answer.{never, ok_same, step, checked}
-use Rattle.format.proofs.Utf8.{utf8-exact}
-use Rattle.format.proofs.Read.{word_read, long-read, string-read, part-read}
+use Rattle.format.proofs.Utf8.{utf8_exact}
+use Rattle.format.proofs.Read.{word_read, long_read, string_read, part_read}
 
 module _ (b : List ℕ) (all : AreBytes b) (strings : Block) where
   -- a part of a tree that was read at p: it stands there, and what follows it begins where the reader says
@@ -23,18 +23,18 @@ module _ (b : List ℕ) (all : AreBytes b) (strings : Block) where
     at : PropertyAt b strings p r.value
     next : r.next ≡ after_property p r.value
 
-  property-sound : (p : ℕ) (r : Read Property) → Has b p (word PROP) → property b strings p ≡ ok r → PropertyRead p r
+  property_sound : (p : ℕ) (r : Read Property) → Has b p (word PROP) → property b strings p ≡ ok r → PropertyRead p r
   unfolding property after_property
-  property-sound p r token e =
+  property_sound p r token e =
       step _ _ e λ size hsize e.
       step _ _ e λ offset hoffset e.
       step _ _ e λ value hvalue e.
       step _ _ e λ name hname e.
       step _ _ e λ _ hutf8 e.
-      let inside = part-read b (p + 12) size hvalue in
-      let string = string-read (take strings.end b) (strings.start + offset) hname in
+      let inside = part_read b (p + 12) size hvalue in
+      let string = string_read (take strings.end b) (strings.start + offset) hname in
       subst (PropertyRead p) (ok_same e) (record {
-        good = record { nonzero = string.nonzero; utf8 = (utf8-exact name).0 (checked _ _ hutf8) };
+        good = record { nonzero = string.nonzero; utf8 = (utf8_exact name).0 (checked _ _ hutf8) };
         at = record {
           offset = offset;
           token = token;
@@ -52,24 +52,24 @@ module _ (b : List ℕ) (all : AreBytes b) (strings : Block) where
     at : PropertiesAt b strings p r.value
     next : r.next ≡ after_properties p r.value
 
-  property-first : (p : ℕ) (x : Read Property) (xs : Read (List Property)) → PropertyRead p x → PropertiesRead x.next xs
+  property_first : (p : ℕ) (x : Read Property) (xs : Read (List Property)) → PropertyRead p x → PropertiesRead x.next xs
       → PropertiesRead p (record { value = x.value ∷ xs.value; next = xs.next })
   unfolding GoodProperties PropertiesAt after_properties
-  property-first p x xs h hs = record { good = (h.good, hs.good); at = (h.at, rw h.next at hs.at); next = hs.next ∙ rw h.next }
+  property_first p x xs h hs = record { good = (h.good, hs.good); at = (h.at, rw h.next at hs.at); next = hs.next ∙ rw h.next }
 
-  properties-sound : (fuel p : ℕ) (r : Read (List Property)) → properties b strings fuel p ≡ ok r → PropertiesRead p r
+  properties_sound : (fuel p : ℕ) (r : Read (List Property)) → properties b strings fuel p ≡ ok r → PropertiesRead p r
   unfolding properties GoodProperties PropertiesAt after_properties
-  properties-sound zero p r e = absurd (never e)
-  properties-sound (suc fuel) p r e =
+  properties_sound zero p r e = absurd (never e)
+  properties_sound (suc fuel) p r e =
       step _ _ e λ token htoken e.
       if-went _ _ _ e
       (λ t e.
       step _ _ e λ x hx e.
       step _ _ e λ xs hxs e.
       subst (PropertiesRead p) (ok_same e)
-      (property-first p x xs
-      (property-sound p x (rw (eqb-true token PROP t) at (word_read b p all htoken)) hx)
-      (properties-sound fuel x.next xs hxs)))
+      (property_first p x xs
+      (property_sound p x (rw (eqb-true token PROP t) at (word_read b p all htoken)) hx)
+      (properties_sound fuel x.next xs hxs)))
       (λ t e. subst (PropertiesRead p) (ok_same e) (record { good = tt; at = tt; next = refl }))
 
   pub record NodeRead (d p : ℕ) (r : Read Node) : Type 0 where
@@ -84,10 +84,10 @@ module _ (b : List ℕ) (all : AreBytes b) (strings : Block) where
     next : r.next ≡ after_nodes p r.value
     deep : depths r.value ≤ d
 
-  node-first : (d p : ℕ) (n : Read Node) (ns : Read Nodes) → NodeRead d p n → NodesRead d n.next ns
+  node_first : (d p : ℕ) (n : Read Node) (ns : Read Nodes) → NodeRead d p n → NodesRead d n.next ns
       → NodesRead d p (record { value = n.value & ns.value; next = ns.next })
   unfolding GoodNodes NodesAt after_nodes depths
-  node-first d p n ns h hs = record {
+  node_first d p n ns h hs = record {
     good = (h.good, hs.good);
     at = (h.at, rw h.next at hs.at);
     next = hs.next ∙ rw h.next;
@@ -96,24 +96,24 @@ module _ (b : List ℕ) (all : AreBytes b) (strings : Block) where
 
   -- children, if what reads one is sound
   module _ (d : ℕ) (load : ℕ → Outcome (Read Node)) (sound : (p : ℕ) (r : Read Node) → load p ≡ ok r → NodeRead d p r) where
-    nodes-sound : (fuel p : ℕ) (r : Read Nodes) → nodes b load fuel p ≡ ok r → NodesRead d p r
+    nodes_sound : (fuel p : ℕ) (r : Read Nodes) → nodes b load fuel p ≡ ok r → NodesRead d p r
     unfolding nodes GoodNodes NodesAt after_nodes depths
-    nodes-sound zero p r e = absurd (never e)
-    nodes-sound (suc fuel) p r e =
+    nodes_sound zero p r e = absurd (never e)
+    nodes_sound (suc fuel) p r e =
         step _ _ e λ token htoken e.
         if-went _ _ _ e
         (λ t e.
         step _ _ e λ n hn e.
         step _ _ e λ ns hns e.
-        subst (NodesRead d p) (ok_same e) (node-first d p n ns (sound p n hn) (nodes-sound fuel n.next ns hns)))
+        subst (NodesRead d p) (ok_same e) (node_first d p n ns (sound p n hn) (nodes_sound fuel n.next ns hns)))
         (λ t e. subst (NodesRead d p) (ok_same e) (record { good = tt; at = tt; next = refl; deep = omega arith }))
 
-  node-whole : (d p : ℕ) (name : List ℕ) (xs : Read (List Property)) (ns : Read Nodes)
+  node_whole : (d p : ℕ) (name : List ℕ) (xs : Read (List Property)) (ns : Read Nodes)
       → Has b p (word BEGIN_NODE) → GoodName name → Has b (p + 4) (name ++ 0 ∷ []) → PropertiesRead (after_name p name) xs
       → NodesRead d xs.next ns → Has b ns.next (word END_NODE)
       → NodeRead (suc d) p (record { value = node name xs.value ns.value; next = ns.next + 4 })
   unfolding GoodNode NodeAt after_node depth
-  node-whole d p name xs ns begin good n hx hn end =
+  node_whole d p name xs ns begin good n hx hn end =
       let after : ns.next ≡ after_nodes (after_properties (after_name p name) xs.value) ns.value = hn.next ∙ rw hx.next in
       record {
         good = (good, hx.good, hn.good);
@@ -122,10 +122,10 @@ module _ (b : List ℕ) (all : AreBytes b) (strings : Block) where
         deep = omega arith;
       }
 
-  pub node-sound : (d p : ℕ) (r : Read Node) → node_load b strings d p ≡ ok r → NodeRead d p r
+  pub node_sound : (d p : ℕ) (r : Read Node) → node_load b strings d p ≡ ok r → NodeRead d p r
   unfolding node_load after_name
-  node-sound zero p r e = absurd (never e)
-  node-sound (suc d) p r e =
+  node_sound zero p r e = absurd (never e)
+  node_sound (suc d) p r e =
       step _ _ e λ begin hbegin e.
       step _ _ e λ _ isBegin e.
       step _ _ e λ name hname e.
@@ -134,44 +134,44 @@ module _ (b : List ℕ) (all : AreBytes b) (strings : Block) where
       step _ _ e λ end hend e.
       step _ _ e λ _ isEnd e.
       step _ _ e λ _ hutf8 e.
-      let string = string-read b (p + 4) hname in
+      let string = string_read b (p + 4) hname in
       subst (NodeRead (suc d) p) (ok_same e)
-      (node-whole d p name xs ns
+      (node_whole d p name xs ns
       (rw (eqb-true begin BEGIN_NODE (checked _ _ isBegin)) at (word_read b p all hbegin))
-      (record { nonzero = string.nonzero; utf8 = (utf8-exact name).0 (checked _ _ hutf8) })
+      (record { nonzero = string.nonzero; utf8 = (utf8_exact name).0 (checked _ _ hutf8) })
       string.bytes
-      (properties-sound (length b) (after_name p name) xs hxs)
-      (nodes-sound d (λ q. node_load b strings d q) (λ q s k. node-sound d q s k) (length b) xs.next ns hns)
+      (properties_sound (length b) (after_name p name) xs hxs)
+      (nodes_sound d (λ q. node_load b strings d q) (λ q s k. node_sound d q s k) (length b) xs.next ns hns)
       (rw (eqb-true end END_NODE (checked _ _ isEnd)) at (word_read b ns.next all hend)))
 
 module _ (b : List ℕ) (all : AreBytes b) where
-  reservation-sound : (p : ℕ) (r : Reservation) → reservation b p ≡ ok r → ReservationAt b p r
+  reservation_sound : (p : ℕ) (r : Reservation) → reservation b p ≡ ok r → ReservationAt b p r
   unfolding reservation
-  reservation-sound p r e =
+  reservation_sound p r e =
       step _ _ e λ offset hoffset e.
       step _ _ e λ size hsize e.
-      subst (ReservationAt b p) (ok_same e) (record { offset = long-read b p all hoffset; size = long-read b (p + 8) all hsize })
+      subst (ReservationAt b p) (ok_same e) (record { offset = long_read b p all hoffset; size = long_read b (p + 8) all hsize })
 
   record ReservationsRead (is_last : Reservation → Bool) (p : ℕ) (rs : List Reservation) : Type 0 where
     last : LastEnds is_last rs
     at : ReservationsAt b p rs
 
-  ends-later : (is_last : Reservation → Bool) (r : Reservation) (rs : List Reservation) → is_last r ≡ false → LastEnds is_last rs → LastEnds is_last (r ∷ rs)
+  ends_later : (is_last : Reservation → Bool) (r : Reservation) (rs : List Reservation) → is_last r ≡ false → LastEnds is_last rs → LastEnds is_last (r ∷ rs)
   unfolding LastEnds
-  ends-later is_last r [] e h = absurd h
-  ends-later is_last r (s ∷ rs) e h = (e, h)
+  ends_later is_last r [] e h = absurd h
+  ends_later is_last r (s ∷ rs) e h = (e, h)
 
-  reservations-sound : (is_last : Reservation → Bool) (fuel p : ℕ) (rs : List Reservation) → reservations is_last b fuel p ≡ ok rs → ReservationsRead is_last p rs
+  reservations_sound : (is_last : Reservation → Bool) (fuel p : ℕ) (rs : List Reservation) → reservations is_last b fuel p ≡ ok rs → ReservationsRead is_last p rs
   unfolding reservations ReservationsAt LastEnds
-  reservations-sound is_last zero p rs e = absurd (never e)
-  reservations-sound is_last (suc fuel) p rs e =
+  reservations_sound is_last zero p rs e = absurd (never e)
+  reservations_sound is_last (suc fuel) p rs e =
       step _ _ e λ r hr e.
       if-went _ _ _ e
-      (λ t e. subst (ReservationsRead is_last p) (ok_same e) (record { last = t; at = (reservation-sound p r hr, tt) }))
+      (λ t e. subst (ReservationsRead is_last p) (ok_same e) (record { last = t; at = (reservation_sound p r hr, tt) }))
       (λ t e.
       step _ _ e λ rest hrest e.
-      let ih = reservations-sound is_last fuel (p + 16) rest hrest in
-      subst (ReservationsRead is_last p) (ok_same e) (record { last = ends-later is_last r rest t ih.last; at = (reservation-sound p r hr, ih.at) }))
+      let ih = reservations_sound is_last fuel (p + 16) rest hrest in
+      subst (ReservationsRead is_last p) (ok_same e) (record { last = ends_later is_last r rest t ih.last; at = (reservation_sound p r hr, ih.at) }))
 
   -- the words of a header that was read
   record HeaderRead (h : Header) : Type 0 where
@@ -183,9 +183,9 @@ module _ (b : List ℕ) (all : AreBytes b) where
     version_is : Has b version_at (word version)
     boot_is : Has b boot_cpu_at (word h.boot)
 
-  header-sound : (h : Header) → header b ≡ ok h → HeaderRead h
+  header_sound : (h : Header) → header b ≡ ok h → HeaderRead h
   unfolding header
-  header-sound h e =
+  header_sound h e =
       step _ _ e λ m hm e.
       step _ _ e λ _ isMagic e.
       step _ _ e λ size hsize e.
@@ -217,9 +217,9 @@ module _ (b : List ℕ) (all : AreBytes b) where
       step _ _ e λ h hh e.
       step _ _ e λ rs hrs e.
       step _ _ e λ root hroot e.
-      let words = header-sound h hh in
-      let list = reservations-sound rules.is_last (length b) h.reservations rs hrs in
-      let node = node-sound b all (record { start = h.strings; end = rules.strings_end b }) d h.structure root hroot in
+      let words = header_sound h hh in
+      let list = reservations_sound rules.is_last (length b) h.reservations rs hrs in
+      let node = node_sound b all (record { start = h.strings; end = rules.strings_end b }) d h.structure root hroot in
       subst (Sound rules d) (ok_same e) (record {
         encodes = record {
           good = record { names = node.good; last = list.last };

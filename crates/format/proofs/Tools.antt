@@ -37,8 +37,8 @@ unfolding if◌then◌else◌
 if-went true x y e f g = f refl e
 if-went false x y e f g = g refl e
 
-pub if-same : {A : Type 0} (t : Bool) (x x' y y' : A) → x ≡ x' → y ≡ y' → (if t then x else y) ≡ (if t then x' else y')
-if-same t x x' y y' e k = rw (e, k)
+pub if_same : {A : Type 0} (t : Bool) (x x' y y' : A) → x ≡ x' → y ≡ y' → (if t then x else y) ≡ (if t then x' else y')
+if_same t x x' y y' e k = rw (e, k)
 
 -- ---- tables: a test passed by every number below n
 

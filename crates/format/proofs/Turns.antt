@@ -15,11 +15,11 @@ use Rattle.format.specs.Utf8.{from_utf8}
 use Rattle.format.specs.Tree.{◌&◌}
 use Rattle.format.specs.Encodes.{Block}
 use Rattle.format.specs.Read.{read_be_u32, read_bstring0, Read, property, properties, nodes, node_load}
-use Rattle.format.proofs.Tools.{if_yes, if_no, if-same}
-use Rattle.format.proofs.Answer.{never, ok_same, step, ok-then, then_ok, then-refused, then-then, then_if, then_same, check-ok, check-no}
+use Rattle.format.proofs.Tools.{if_yes, if_no, if_same}
+use Rattle.format.proofs.Answer.{never, ok_same, step, ok_then, then_ok, then_refused, then_then, then_if, then_same, check_ok, check_no}
 use Rattle.format.proofs.Bytes.{has_rest}
-use Rattle.format.proofs.Read.{string-read}
-use Rattle.format.proofs.Loops.{properties-turn, nodes-turn, property-moves, node-moves}
+use Rattle.format.proofs.Read.{string_read}
+use Rattle.format.proofs.Loops.{properties_turn, nodes_turn, property_moves_lem, node_moves_lem}
 
 -- where what follows begins
 unfoldable pub next_of : {A : Type 0} → Outcome (Read A) → Outcome ℕ
@@ -46,18 +46,18 @@ module _ (b : List ℕ) (strings : Block) where
       if eqb token PROP then (next_of (property b strings p) >>= λ q. next_of (properties b strings (length b) q)) else ok p)
   unfolding next_of
   properties_next p =
-      ap (λ m. m >>= λ r. ok r.next) (properties-turn b strings p)
-      ∙ then-then _ _ _
-      ∙ then_same _ _ _ (λ token h. then_if _ _ _ _ ∙ if-same _ _ _ _ _ (first_rest (property b strings p) (λ q. properties b strings (length b) q) (λ x xs. x ∷ xs)) (ok-then _ _))
+      ap (λ m. m >>= λ r. ok r.next) (properties_turn b strings p)
+      ∙ then_then _ _ _
+      ∙ then_same _ _ _ (λ token h. then_if _ _ _ _ ∙ if_same _ _ _ _ _ (first_rest (property b strings p) (λ q. properties b strings (length b) q) (λ x xs. x ∷ xs)) (ok_then _ _))
 
   -- the loop over children
   pub nodes_next : (d p : ℕ) → next_of (nodes b (λ q. node_load b strings d q) (length b) p) ≡ (read_be_u32 b p >>= λ token.
       if eqb token BEGIN_NODE then (next_of (node_load b strings d p) >>= λ q. next_of (nodes b (λ q. node_load b strings d q) (length b) q)) else ok p)
   unfolding next_of
   nodes_next d p =
-      ap (λ m. m >>= λ r. ok r.next) (nodes-turn b strings d p)
-      ∙ then-then _ _ _
-      ∙ then_same _ _ _ (λ token h. then_if _ _ _ _ ∙ if-same _ _ _ _ _ (first_rest (node_load b strings d p) (λ q. nodes b (λ q. node_load b strings d q) (length b) q) (λ x xs. x & xs)) (ok-then _ _))
+      ap (λ m. m >>= λ r. ok r.next) (nodes_turn b strings d p)
+      ∙ then_then _ _ _
+      ∙ then_same _ _ _ (λ token h. then_if _ _ _ _ ∙ if_same _ _ _ _ _ (first_rest (node_load b strings d p) (λ q. nodes b (λ q. node_load b strings d q) (length b) q) (λ x xs. x & xs)) (ok_then _ _))
 
   -- a node
   pub node_next : (d p : ℕ) → next_of (node_load b strings (suc d) p) ≡ (read_be_u32 b p >>= λ token.
@@ -70,20 +70,20 @@ module _ (b : List ℕ) (strings : Block) where
       check (from_utf8 name) utf8_error >>= λ _.
       ok (r + 4))
   unfolding node_load next_of
-  node_next d p = simp (then-then, ok-then)
+  node_next d p = simp (then_then, ok_then)
 
   -- what moves on
   pub property_moves : (p q : ℕ) → next_of (property b strings p) ≡ ok q → p < q
   unfolding next_of
-  property_moves p q e = step _ _ e λ x hx e. rw (← ok_same e) (property-moves b strings p x hx)
+  property_moves p q e = step _ _ e λ x hx e. rw (← ok_same e) (property_moves_lem b strings p x hx)
 
   pub node_moves : (d p q : ℕ) → next_of (node_load b strings d p) ≡ ok q → p < q
   unfolding next_of
-  node_moves d p q e = step _ _ e λ x hx e. rw (← ok_same e) (node-moves b strings d p x hx)
+  node_moves d p q e = step _ _ e λ x hx e. rw (← ok_same e) (node_moves_lem b strings d p x hx)
 
   -- turns of the loop over properties: past the end, another token, a property that is refused, a property
   pub properties_end : (p : ℕ) {r : Refusal} → read_be_u32 b p ≡ refused r → next_of (properties b strings (length b) p) ≡ refused r
-  properties_end p e = properties_next p ∙ then-refused _ _ e
+  properties_end p e = properties_next p ∙ then_refused _ _ e
 
   pub properties_stop : (p token : ℕ) → read_be_u32 b p ≡ ok token → token ≢ PROP → next_of (properties b strings (length b) p) ≡ ok p
   properties_stop p token e n = properties_next p ∙ then_ok _ _ e (if_no _ _ (ne_eqb token PROP n))
@@ -120,24 +120,24 @@ module _ (b : List ℕ) (strings : Block) where
 
   module _ (d p : ℕ) (deep : d ≢ 0) where
     pub node_end : {r : Refusal} → read_be_u32 b p ≡ refused r → next_of (node_load b strings d p) ≡ refused r
-    node_end e = node_head d p deep ∙ then-refused _ _ e
+    node_end e = node_head d p deep ∙ then_refused _ _ e
 
     pub node_other : (token : ℕ) → read_be_u32 b p ≡ ok token → token ≢ BEGIN_NODE → next_of (node_load b strings d p) ≡ refused (parse_error p)
-    node_other token e n = node_head d p deep ∙ then_ok _ _ e (then-refused _ _ (check-no _ (ne_eqb token BEGIN_NODE n)))
+    node_other token e n = node_head d p deep ∙ then_ok _ _ e (then_refused _ _ (check_no _ (ne_eqb token BEGIN_NODE n)))
 
     module _ (token : ℕ) (is_token : read_be_u32 b p ≡ ok token) (begins : token ≡ BEGIN_NODE) where
       node_name : next_of (node_load b strings d p) ≡ (read_bstring0 b (p + 4) >>= λ name.
           next_of (properties b strings (length b) (align (p + 4 + length name + 1) 4)) >>= λ q.
           children_then_end (d - 1) q name)
-      node_name = node_head d p deep ∙ then_ok _ _ is_token (then_ok _ _ (check-ok _ (eq-eqb token BEGIN_NODE begins)) refl)
+      node_name = node_head d p deep ∙ then_ok _ _ is_token (then_ok _ _ (check_ok _ (eq-eqb token BEGIN_NODE begins)) refl)
 
       pub node_unnamed : {r : Refusal} → read_bstring0 b (p + 4) ≡ refused r → next_of (node_load b strings d p) ≡ refused r
-      node_unnamed e = node_name ∙ then-refused _ _ e
+      node_unnamed e = node_name ∙ then_refused _ _ e
 
       module _ (name : List ℕ) (is_name : read_bstring0 b (p + 4) ≡ ok name) where
         pub node_bad_property : {r : Refusal} → next_of (properties b strings (length b) (align (p + 4 + length name + 1) 4)) ≡ refused r
             → next_of (node_load b strings d p) ≡ refused r
-        node_bad_property e = node_name ∙ then_ok _ _ is_name (then-refused _ _ e)
+        node_bad_property e = node_name ∙ then_ok _ _ is_name (then_refused _ _ e)
 
         pub node_inside : (q : ℕ) → next_of (properties b strings (length b) (align (p + 4 + length name + 1) 4)) ≡ ok q
             → next_of (node_load b strings d p) ≡ children_then_end (d - 1) q name
@@ -150,11 +150,11 @@ module _ (b : List ℕ) (strings : Block) where
   children_more d q token name e n =
       ap (λ m. m >>= λ r. read_be_u32 b r >>= λ token. check (eqb token END_NODE) (parse_error r) >>= λ _. check (from_utf8 name) utf8_error >>= λ _. ok (r + 4))
       (nodes_next d q ∙ then_ok _ _ e (if_yes _ _ (eq-eqb token BEGIN_NODE n)))
-      ∙ then-then _ _ _
+      ∙ then_then _ _ _
 
   pub children_past_end : (d q : ℕ) (name : List ℕ) {r : Refusal} → read_be_u32 b q ≡ refused r → children_then_end d q name ≡ refused r
   unfolding children_then_end
-  children_past_end d q name e = then-refused _ _ (nodes_next d q ∙ then-refused _ _ e)
+  children_past_end d q name e = then_refused _ _ (nodes_next d q ∙ then_refused _ _ e)
 
   pub children_done : (d q token : ℕ) (name : List ℕ) → read_be_u32 b q ≡ ok token → token ≢ BEGIN_NODE
       → children_then_end d q name ≡ (check (eqb token END_NODE) (parse_error q) >>= λ _. check (from_utf8 name) utf8_error >>= λ _. ok (q + 4))
@@ -173,7 +173,7 @@ unfolding length_of part
 named b p len e =
     step _ _ e λ xs h e.
     let size : length xs ≡ len = ok_same e in
-    let has = (string-read b p h).bytes in
+    let has = (string_read b p h).bytes in
     let fits = rw length-append at has.fits in
     let same : take len (drop p b) ≡ xs =
     rw (has_rest b p has, append_assoc, ← size) (take-append_seam xs _) in

@@ -4,8 +4,8 @@ use mathlib.Core.Path.{◌≡◌, sym, ◌∙◌}
 use mathlib.Core.List.{List}
 use Rattle.answers.specs.Answers.{answer_numbers}
 use Rattle.answers.specs.declared.Answer.{Answer}
-use Rattle.answers.proofs.Determined.{answer-by-numbers}
+use Rattle.answers.proofs.Determined.{answer_by_numbers}
 use Rattle.letters.specs.Replies.{reply}
 
-pub reply-determined : (line : List ℕ) (r q : Answer) → answer_numbers r ≡ reply 8192 line → answer_numbers q ≡ reply 8192 line → r ≡ q
-reply-determined line r q e f = answer-by-numbers r q (e ∙ sym f)
+pub reply_determined : (line : List ℕ) (r q : Answer) → answer_numbers r ≡ reply 8192 line → answer_numbers q ≡ reply 8192 line → r ≡ q
+reply_determined line r q e f = answer_by_numbers r q (e ∙ sym f)

@@ -19,7 +19,7 @@ same_count (count.Is m) count.Bad out left p q e = cc
 same_count count.Bad (count.Is n) out left p q e = cc
 same_count count.Bad count.Bad out left p q e = refl
 
-pub put-determined : {r q : Count} {m : Option (List ℕ)} {out left : List ℕ} → Put r m out → Put q m left → (r ≡ q) × (put_by r out ≡ put_by q left)
-put-determined {r} {q} {m} {out} {left} h k =
+pub put_determined : {r q : Count} {m : Option (List ℕ)} {out left : List ℕ} → Put r m out → Put q m left → (r ≡ q) × (put_by r out ≡ put_by q left)
+put_determined {r} {q} {m} {out} {left} h k =
     let e = h.same ∙ sym k.same in
     (same_count r q out left h.within k.within e, e)

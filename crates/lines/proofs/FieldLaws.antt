@@ -19,31 +19,31 @@ use Rattle.lines.specs.declared.Count.TheVariants as count
 -- ---- digits
 
 module _ (b : ℕ) where
-  pub digit-number : 48 ≤ b → b ≤ 57 → digit_of b ≡ b - 48
+  pub digit_number : 48 ≤ b → b ≤ 57 → digit_of b ≡ b - 48
   unfolding digit_of
-  digit-number p q = simp (le-ltb b 48 p, le-leb b 57 q)
+  digit_number p q = simp (le-ltb b 48 p, le-leb b 57 q)
 
-  pub digit-upper : 65 ≤ b → b ≤ 70 → digit_of b ≡ b - 65 + 10
+  pub digit_upper : 65 ≤ b → b ≤ 70 → digit_of b ≡ b - 65 + 10
   unfolding digit_of
-  digit-upper p q =
+  digit_upper p q =
       simp (le-ltb b 48 (omega arith), lt-leb b 57 (omega arith), le-ltb b 65 p, le-leb b 70 q)
 
-  pub digit-lower : 97 ≤ b → b ≤ 102 → digit_of b ≡ b - 97 + 10
+  pub digit_lower : 97 ≤ b → b ≤ 102 → digit_of b ≡ b - 97 + 10
   unfolding digit_of
-  digit-lower p q =
+  digit_lower p q =
       simp (le-ltb b 48 (omega arith), lt-leb b 57 (omega arith), le-ltb b 65 (omega arith), lt-leb b 70 (omega arith), le-ltb b 97 p, le-leb b 102 q)
 
-  pub below-numbers : b < 48 → digit_of b ≡ 16
+  pub below_numbers : b < 48 → digit_of b ≡ 16
   unfolding digit_of
-  below-numbers p = simp (lt-ltb b 48 p)
+  below_numbers p = simp (lt-ltb b 48 p)
 
-  pub below-upper : 57 < b → b < 65 → digit_of b ≡ 16
+  pub below_upper : 57 < b → b < 65 → digit_of b ≡ 16
   unfolding digit_of
-  below-upper p q = simp (le-ltb b 48 (omega arith), lt-leb b 57 p, lt-ltb b 65 q)
+  below_upper p q = simp (le-ltb b 48 (omega arith), lt-leb b 57 p, lt-ltb b 65 q)
 
-  pub below-lower : 70 < b → b < 97 → digit_of b ≡ 16
+  pub below_lower : 70 < b → b < 97 → digit_of b ≡ 16
   unfolding digit_of
-  below-lower p q =
+  below_lower p q =
       simp (le-ltb b 48 (omega arith), lt-leb b 57 (omega arith), le-ltb b 65 (omega arith), lt-leb b 70 p, lt-ltb b 97 q)
 
   pub above_lower : 102 < b → digit_of b ≡ 16
@@ -52,35 +52,35 @@ module _ (b : ℕ) where
       simp (le-ltb b 48 (omega arith), lt-leb b 57 (omega arith), le-ltb b 65 (omega arith), lt-leb b 70 (omega arith), le-ltb b 97 (omega arith), lt-leb b 102 p)
 
 module _ (a b x y : ℕ) (p : x ≡ digit_of a) (q : y ≡ digit_of b) where
-  pub pair-high : 15 < x → 256 ≡ pair_of a b
+  pub pair_high : 15 < x → 256 ≡ pair_of a b
   unfolding pair_of
-  pair-high h = simp (le-ltb (digit_of a) 16 (omega arith))
+  pair_high h = simp (le-ltb (digit_of a) 16 (omega arith))
 
-  pub pair-low : x ≤ 15 → 15 < y → 256 ≡ pair_of a b
+  pub pair_low : x ≤ 15 → 15 < y → 256 ≡ pair_of a b
   unfolding pair_of
-  pair-low h k = simp (lt-ltb (digit_of a) 16 (omega arith), le-ltb (digit_of b) 16 (omega arith))
+  pair_low h k = simp (lt-ltb (digit_of a) 16 (omega arith), le-ltb (digit_of b) 16 (omega arith))
 
-  pub pair-both : x ≤ 15 → y ≤ 15 → x * 16 + y ≡ pair_of a b
+  pub pair_both : x ≤ 15 → y ≤ 15 → x * 16 + y ≡ pair_of a b
   unfolding pair_of
-  pair-both h k = simp (lt-ltb (digit_of a) 16 (omega arith), lt-ltb (digit_of b) 16 (omega arith)) (omega arith)
+  pair_both h k = simp (lt-ltb (digit_of a) 16 (omega arith), lt-ltb (digit_of b) 16 (omega arith)) (omega arith)
 
 -- ---- numbers
 
-pub number-begins : (s : List ℕ) → 0 < length s → length s ≤ 20 → number_of s ≡ number_from 0 s
+pub number_begins : (s : List ℕ) → 0 < length s → length s ≤ 20 → number_of s ≡ number_from 0 s
 unfolding number_of
-number-begins s p q = simp (ne_eqb (length s) 0 (λ e. omega arith), le-ltb 20 (length s) q)
+number_begins s p q = simp (ne_eqb (length s) 0 (λ e. omega arith), le-ltb 20 (length s) q)
 
-pub number-empty : (s : List ℕ) → length s ≡ 0 → number_of s ≡ number.Bad
+pub number_empty : (s : List ℕ) → length s ≡ 0 → number_of s ≡ number.Bad
 unfolding number_of
-number-empty s p = simp (eq-eqb (length s) 0 p)
+number_empty s p = simp (eq-eqb (length s) 0 p)
 
-pub number-long : (s : List ℕ) → 20 < length s → number_of s ≡ number.Bad
+pub number_long : (s : List ℕ) → 20 < length s → number_of s ≡ number.Bad
 unfolding number_of
-number-long s p = simp (ne_eqb (length s) 0 (λ e. omega arith), lt-ltb 20 (length s) p)
+number_long s p = simp (ne_eqb (length s) 0 (λ e. omega arith), lt-ltb 20 (length s) p)
 
-pub number-end : (n : ℕ) (s : List ℕ) (i : ℕ) → length s ≤ i → number_from n (drop i s) ≡ number.Is n
+pub number_end : (n : ℕ) (s : List ℕ) (i : ℕ) → length s ≤ i → number_from n (drop i s) ≡ number.Is n
 unfolding number_from
-number-end n s i h = rw (drop_of_length-le s h)
+number_end n s i h = rw (drop_of_length-le s h)
 
 module _ (n : ℕ) (s : List ℕ) (i : ℕ) (h : i < length s) where
   pub number_step :
@@ -91,33 +91,33 @@ module _ (n : ℕ) (s : List ℕ) (i : ℕ) (h : i < length s) where
       rw (e, add-one i, drop-cons s i 0 h)
       (simp (le-leb (digit_of (get_or s i 0)) 9 (omega arith), lt-ltb (n * 10 + digit_of (get_or s i 0)) (2 ^ 64) (omega arith)))
 
-  pub number-other : (d : ℕ) → d ≡ digit_of (get_or s i 0) → 9 < d → number_from n (drop i s) ≡ number.Bad
+  pub number_other : (d : ℕ) → d ≡ digit_of (get_or s i 0) → 9 < d → number_from n (drop i s) ≡ number.Bad
   unfolding number_from
-  number-other d e p = rw (drop-cons s i 0 h) (simp (lt-leb (digit_of (get_or s i 0)) 9 (omega arith)))
+  number_other d e p = rw (drop-cons s i 0 h) (simp (lt-leb (digit_of (get_or s i 0)) 9 (omega arith)))
 
-  pub number-over :
+  pub number_over :
       (d : ℕ) → d ≡ digit_of (get_or s i 0) → d ≤ 9 → 2 ^ 64 ≤ n * 10 + d →
       number_from n (drop i s) ≡ number.Bad
   unfolding number_from
-  number-over d e p q =
+  number_over d e p q =
       rw (drop-cons s i 0 h)
       (simp (le-leb (digit_of (get_or s i 0)) 9 (omega arith), le-ltb (n * 10 + digit_of (get_or s i 0)) (2 ^ 64) (omega arith)))
 
 -- ---- bytes
 
-pub before-before : (xs ys : List ℕ) (m : Option (List ℕ)) → before xs (before ys m) ≡ before (xs ++ ys) m
+pub before_before : (xs ys : List ℕ) (m : Option (List ℕ)) → before xs (before ys m) ≡ before (xs ++ ys) m
 unfolding before
-before-before xs ys none = refl
-before-before xs ys (some zs) = simp append_assoc
+before_before xs ys none = refl
+before_before xs ys (some zs) = simp append_assoc
 
-pub before-nil : (m : Option (List ℕ)) → m ≡ before [] m
+pub before_nil : (m : Option (List ℕ)) → m ≡ before [] m
 unfolding before
-before-nil none = refl
-before-nil (some zs) = refl
+before_nil none = refl
+before_nil (some zs) = refl
 
-pub before-end : (xs : List ℕ) → before xs (some []) ≡ some xs
+pub before_end : (xs : List ℕ) → before xs (some []) ≡ some xs
 unfolding before
-before-end xs = simp append-nil
+before_end xs = simp append-nil
 
 pub pairs_end : (s : List ℕ) (i : ℕ) → length s ≤ i → pairs_of (drop i s) ≡ some []
 unfolding pairs_of
@@ -130,26 +130,26 @@ two s i h =
     rw (e, f, drop-cons s (i * 2) 0 (omega arith), drop-cons s (suc (i * 2)) 0 (omega arith))
 
 module _ (s : List ℕ) (i x : ℕ) (e : x ≡ pair_of (get_or s (i * 2) 0) (get_or s (i * 2 + 1) 0)) (h : i * 2 + 1 < length s) where
-  pairs-step : x < 256 → pairs_of (drop (i * 2) s) ≡ before (x ∷ []) (pairs_of (drop ((i + 1) * 2) s))
+  pairs_step : x < 256 → pairs_of (drop (i * 2) s) ≡ before (x ∷ []) (pairs_of (drop ((i + 1) * 2) s))
   unfolding pairs_of
-  pairs-step p = rw (two s i h, e) (simp (lt-ltb (pair_of (get_or s (i * 2) 0) (get_or s (i * 2 + 1) 0)) 256 (omega arith)))
+  pairs_step p = rw (two s i h, e) (simp (lt-ltb (pair_of (get_or s (i * 2) 0) (get_or s (i * 2 + 1) 0)) 256 (omega arith)))
 
-  pairs-bad : 255 < x → pairs_of (drop (i * 2) s) ≡ none
+  pairs_bad : 255 < x → pairs_of (drop (i * 2) s) ≡ none
   unfolding pairs_of
-  pairs-bad p = rw (two s i h) (simp (le-ltb (pair_of (get_or s (i * 2) 0) (get_or s (i * 2 + 1) 0)) 256 (omega arith)))
+  pairs_bad p = rw (two s i h) (simp (le-ltb (pair_of (get_or s (i * 2) 0) (get_or s (i * 2 + 1) 0)) 256 (omega arith)))
 
 module _ (room : ℕ) (s : List ℕ) where
-  pub hex-odd : length s % 2 ≡ 1 → hex_of room s ≡ none
+  pub hex_odd : length s % 2 ≡ 1 → hex_of room s ≡ none
   unfolding hex_of
-  hex-odd p = simp (eq-eqb (length s % 2) 1 p)
+  hex_odd p = simp (eq-eqb (length s % 2) 1 p)
 
-  pub hex-long : length s % 2 ≡ 0 → room * 2 < length s → hex_of room s ≡ none
+  pub hex_long : length s % 2 ≡ 0 → room * 2 < length s → hex_of room s ≡ none
   unfolding hex_of
-  hex-long p q = simp (ne_eqb (length s % 2) 1 (λ e. omega arith), lt-ltb (room * 2) (length s) q)
+  hex_long p q = simp (ne_eqb (length s % 2) 1 (λ e. omega arith), lt-ltb (room * 2) (length s) q)
 
-  hex-pairs : length s % 2 ≡ 0 → length s ≤ room * 2 → hex_of room s ≡ pairs_of s
+  hex_pairs : length s % 2 ≡ 0 → length s ≤ room * 2 → hex_of room s ≡ pairs_of s
   unfolding hex_of
-  hex-pairs p q = simp (ne_eqb (length s % 2) 1 (λ e. omega arith), le-ltb (room * 2) (length s) q)
+  hex_pairs p q = simp (ne_eqb (length s % 2) 1 (λ e. omega arith), le-ltb (room * 2) (length s) q)
 
 -- where hex is: the i bytes that are put, before what the rest of the digits spell, are what all of them spell
 pub record Hexed (room : ℕ) (s out : List ℕ) (i : ℕ) : Type 0 where
@@ -158,45 +158,45 @@ pub record Hexed (room : ℕ) (s out : List ℕ) (i : ℕ) : Type 0 where
   pub lent : length out ≡ room
   pub spelled : hex_of room s ≡ before (take i out) (pairs_of (drop (i * 2) s))
 
-pub hex-begins : (s out : List ℕ) → length s % 2 ≡ 0 → length s ≤ length out * 2 → Hexed (length out) s out 0
-hex-begins s out p q =
-    record { even = p; fits = q; lent = refl; spelled = hex-pairs (length out) s p q ∙ before-nil (pairs_of s) }
+pub hex_begins : (s out : List ℕ) → length s % 2 ≡ 0 → length s ≤ length out * 2 → Hexed (length out) s out 0
+hex_begins s out p q =
+    record { even = p; fits = q; lent = refl; spelled = hex_pairs (length out) s p q ∙ before_nil (pairs_of s) }
 
 module _ {room : ℕ} {s out : List ℕ} {i : ℕ} (h : Hexed room s out i) (x : ℕ)
     (e : x ≡ pair_of (get_or s (i * 2) 0) (get_or s (i * 2 + 1) 0)) (p : i * 2 < length s) where
-  pub hex-step : x < 256 → Hexed room s (set out i x) (i + 1)
-  hex-step q = record {
+  pub hex_step : x < 256 → Hexed room s (set out i x) (i + 1)
+  hex_step q = record {
     even = h.even;
     fits = simp length-set h.fits;
     lent = simp length-set h.lent;
     spelled =
-        h.spelled ∙ ap (before (take i out)) (pairs-step s i x e (omega arith) q) ∙ before-before (take i out) (x ∷ []) (pairs_of (drop ((i + 1) * 2) s))
+        h.spelled ∙ ap (before (take i out)) (pairs_step s i x e (omega arith) q) ∙ before_before (take i out) (x ∷ []) (pairs_of (drop ((i + 1) * 2) s))
         ∙ rw (add-one i, take-suc-set out i x (omega arith));
   }
 
-  pub hex-bad : 255 < x → hex_of room s ≡ none
+  pub hex_bad : 255 < x → hex_of room s ≡ none
   unfolding before
-  hex-bad q = h.spelled ∙ ap (before (take i out)) (pairs-bad s i x e (omega arith) q)
+  hex_bad q = h.spelled ∙ ap (before (take i out)) (pairs_bad s i x e (omega arith) q)
 
-pub hex-ends : {room : ℕ} {s out : List ℕ} {i : ℕ} → Hexed room s out i → i ≡ length s / 2 → Put (count.Is (length s / 2)) (hex_of room s) out
+pub hex_ends : {room : ℕ} {s out : List ℕ} {i : ℕ} → Hexed room s out i → i ≡ length s / 2 → Put (count.Is (length s / 2)) (hex_of room s) out
 unfolding many put_by
-hex-ends {room} {s} {out} {i} h e =
+hex_ends {room} {s} {out} {i} h e =
     let q : length s ≤ i * 2 = omega arith in
     record {
       within = omega arith;
-      same = sym (h.spelled ∙ ap (before (take i out)) (pairs_end s (i * 2) q) ∙ before-end (take i out) ∙ ap (λ (k : ℕ). some (take k out)) e);
+      same = sym (h.spelled ∙ ap (before (take i out)) (pairs_end s (i * 2) q) ∙ before_end (take i out) ∙ ap (λ (k : ℕ). some (take k out)) e);
     }
 
 -- ---- a field of bytes
 
 module _ (room : ℕ) (s : List ℕ) where
-  pub bytes-empty : length s ≡ 0 → bytes_of room s ≡ none
+  pub bytes_empty : length s ≡ 0 → bytes_of room s ≡ none
   unfolding bytes_of
-  bytes-empty p = simp (eq-eqb (length s) 0 p)
+  bytes_empty p = simp (eq-eqb (length s) 0 p)
 
-  pub bytes-none : length s ≡ 1 → get_or s 0 0 ≡ 45 → bytes_of room s ≡ some []
+  pub bytes_none : length s ≡ 1 → get_or s 0 0 ≡ 45 → bytes_of room s ≡ some []
   unfolding bytes_of
-  bytes-none p q =
+  bytes_none p q =
       simp (ne_eqb (length s) 0 (λ e. omega arith), eq-eqb (length s) 1 p, eq-eqb (get_or s 0 0) 45 q)
 
   pub bytes_one : length s ≡ 1 → (get_or s 0 0 ≡ 45 → ⊥) → bytes_of room s ≡ none
@@ -204,39 +204,39 @@ module _ (room : ℕ) (s : List ℕ) where
   bytes_one p q =
       simp (ne_eqb (length s) 0 (λ e. omega arith), eq-eqb (length s) 1 p, ne_eqb (get_or s 0 0) 45 q)
 
-  pub bytes-hex : {r : Count} {out : List ℕ} → Put r (hex_of room s) out → 1 < length s → Put r (bytes_of room s) out
+  pub bytes_hex : {r : Count} {out : List ℕ} → Put r (hex_of room s) out → 1 < length s → Put r (bytes_of room s) out
   unfolding bytes_of
-  bytes-hex h p = simp (ne_eqb (length s) 0 (λ e. omega arith), ne_eqb (length s) 1 (λ e. omega arith)) h
+  bytes_hex h p = simp (ne_eqb (length s) 0 (λ e. omega arith), ne_eqb (length s) 1 (λ e. omega arith)) h
 
 -- ---- what was put
 
-pub put-bad : {r : Count} {m : Option (List ℕ)} {out : List ℕ} → r ≡ count.Bad → Put r m out → m ≡ none
+pub put_bad : {r : Count} {m : Option (List ℕ)} {out : List ℕ} → r ≡ count.Bad → Put r m out → m ≡ none
 unfolding put_by
-put-bad {r} {m} {out} e h = sym h.same ∙ ap (λ (r : Count). put_by r out) e
+put_bad {r} {m} {out} e h = sym h.same ∙ ap (λ (r : Count). put_by r out) e
 
 pub put_is : {r : Count} {m : Option (List ℕ)} {out : List ℕ} {n : ℕ} → r ≡ count.Is n → Put r m out → m ≡ some (take n out)
 unfolding put_by
 put_is {r} {m} {out} e h = sym h.same ∙ ap (λ (r : Count). put_by r out) e
 
 -- nothing is put where nothing is spelled
-pub none-put : {m : Option (List ℕ)} (out : List ℕ) → m ≡ none → Put count.Bad m out
+pub none_put : {m : Option (List ℕ)} (out : List ℕ) → m ≡ none → Put count.Bad m out
 unfolding many put_by
-none-put out e = record { within = omega arith; same = sym e }
+none_put out e = record { within = omega arith; same = sym e }
 
-pub empty-put : {m : Option (List ℕ)} (out : List ℕ) → m ≡ some [] → Put (count.Is 0) m out
+pub empty_put : {m : Option (List ℕ)} (out : List ℕ) → m ≡ some [] → Put (count.Is 0) m out
 unfolding many put_by
-empty-put out e = record { within = omega arith; same = sym e }
+empty_put out e = record { within = omega arith; same = sym e }
 
 -- ---- words
 
 module _ (room : ℕ) (b : List ℕ) where
-  pub gather-odd : (length b % 4 ≡ 0 → ⊥) → gathered room b ≡ none
+  pub gather_odd : (length b % 4 ≡ 0 → ⊥) → gathered room b ≡ none
   unfolding gathered
-  gather-odd p = simp (ne_eqb (length b % 4) 0 p)
+  gather_odd p = simp (ne_eqb (length b % 4) 0 p)
 
-  pub gather-long : length b % 4 ≡ 0 → room < length b / 4 → gathered room b ≡ none
+  pub gather_long : length b % 4 ≡ 0 → room < length b / 4 → gathered room b ≡ none
   unfolding gathered
-  gather-long p q = simp (eq-eqb (length b % 4) 0 p, lt-leb (length b / 4) room q)
+  gather_long p q = simp (eq-eqb (length b % 4) 0 p, lt-leb (length b / 4) room q)
 
 -- where gather is: the i words that are put are the first of the bytes' words
 pub record Gathered (room : ℕ) (b out : List ℕ) (i : ℕ) : Type 0 where
@@ -245,15 +245,15 @@ pub record Gathered (room : ℕ) (b out : List ℕ) (i : ℕ) : Type 0 where
   pub lent : length out ≡ room
   pub put : take i out ≡ words_in i b
 
-pub gather-begins : (b out : List ℕ) → length b % 4 ≡ 0 → length b / 4 ≤ length out → Gathered (length out) b out 0
+pub gather_begins : (b out : List ℕ) → length b % 4 ≡ 0 → length b / 4 ≤ length out → Gathered (length out) b out 0
 unfolding words_in
-gather-begins b out p q = record { whole = p; fits = q; lent = refl; put = refl }
+gather_begins b out p q = record { whole = p; fits = q; lent = refl; put = refl }
 
-pub gather-step :
+pub gather_step :
     {room : ℕ} {b out : List ℕ} {i : ℕ} → Gathered room b out i → (x : ℕ) → x ≡ or_zero (read_be_u32 b (i * 4)) → i < length b / 4 →
     Gathered room b (set out i x) (i + 1)
 unfolding words_in
-gather-step {room} {b} {out} {i} h x e p =
+gather_step {room} {b} {out} {i} h x e p =
     let q : i < length out = omega arith in
     record {
       whole = h.whole;
@@ -262,22 +262,22 @@ gather-step {room} {b} {out} {i} h x e p =
       put = rw (add-one i, take-suc-set out i x q, h.put, e);
     }
 
-pub gather-ends : {room : ℕ} {b out : List ℕ} {i : ℕ} → Gathered room b out i → i ≡ length b / 4 → Put (count.Is (length b / 4)) (gathered room b) out
+pub gather_ends : {room : ℕ} {b out : List ℕ} {i : ℕ} → Gathered room b out i → i ≡ length b / 4 → Put (count.Is (length b / 4)) (gathered room b) out
 unfolding many put_by gathered
-gather-ends {room} {b} {out} {i} h e = record {
+gather_ends {room} {b} {out} {i} h e = record {
   within = h.fits;
   same = simp (eq-eqb (length b % 4) 0 h.whole, le-leb (length b / 4) room (omega arith)) (ap some (rw e at h.put));
 }
 
-pub words-bad : (room : ℕ) (s : List ℕ) {r : Count} {out : List ℕ} → r ≡ count.Bad → Put r (bytes_of 14336 s) out → words_of room s ≡ none
+pub words_bad : (room : ℕ) (s : List ℕ) {r : Count} {out : List ℕ} → r ≡ count.Bad → Put r (bytes_of 14336 s) out → words_of room s ≡ none
 unfolding words_of gathered_of
-words-bad room s e h = rw (put-bad e h)
+words_bad room s e h = rw (put_bad e h)
 
-pub words-is :
+pub words_is :
     (room : ℕ) (s : List ℕ) {n : ℕ} {r q : Count} {part out words : List ℕ} → r ≡ count.Is n → Put r (bytes_of 14336 s) out → part ≡ take n out →
     Put q (gathered room part) words → Put q (words_of room s) words
 unfolding words_of gathered_of
-words-is room s e h p k = rw (put_is e h, ← p) k
+words_is room s e h p k = rw (put_is e h, ← p) k
 
 -- ---- a field
 
@@ -289,22 +289,22 @@ tail_none s a e =
     let g : length s ≤ a = omega arith in
     part_to_end s a ∙ drop_of_length-le s g ∙ sym (drop_past s a g)
 
-pub first-nil : (s : List ℕ) (i : ℕ) → length s ≤ i → first_of (drop i s) ≡ []
+pub first_nil : (s : List ℕ) (i : ℕ) → length s ≤ i → first_of (drop i s) ≡ []
 unfolding first_of
-first-nil s i h = rw (drop_of_length-le s h)
+first_nil s i h = rw (drop_of_length-le s h)
 
-pub rest-nil : (s : List ℕ) (i : ℕ) → length s ≤ i → rest_of (drop i s) ≡ []
+pub rest_nil : (s : List ℕ) (i : ℕ) → length s ≤ i → rest_of (drop i s) ≡ []
 unfolding rest_of
-rest-nil s i h = rw (drop_of_length-le s h)
+rest_nil s i h = rw (drop_of_length-le s h)
 
 module _ (s : List ℕ) (i : ℕ) (h : i < length s) where
-  pub first-space : get_or s i 0 ≡ 32 → first_of (drop i s) ≡ []
+  pub first_space : get_or s i 0 ≡ 32 → first_of (drop i s) ≡ []
   unfolding first_of
-  first-space p = rw (drop-cons s i 0 h) (simp (eq-eqb (get_or s i 0) 32 p))
+  first_space p = rw (drop-cons s i 0 h) (simp (eq-eqb (get_or s i 0) 32 p))
 
-  pub rest-space : get_or s i 0 ≡ 32 → rest_of (drop i s) ≡ drop (i + 1) s
+  pub rest_space : get_or s i 0 ≡ 32 → rest_of (drop i s) ≡ drop (i + 1) s
   unfolding rest_of
-  rest-space p = rw (add-one i, drop-cons s i 0 h) (simp (eq-eqb (get_or s i 0) 32 p))
+  rest_space p = rw (add-one i, drop-cons s i 0 h) (simp (eq-eqb (get_or s i 0) 32 p))
 
   pub first_more : (get_or s i 0 ≡ 32 → ⊥) → first_of (drop i s) ≡ get_or s i 0 ∷ first_of (drop (i + 1) s)
   unfolding first_of
@@ -315,10 +315,10 @@ module _ (s : List ℕ) (i : ℕ) (h : i < length s) where
   rest_more p = rw (add-one i, drop-cons s i 0 h) (simp (ne_eqb (get_or s i 0) 32 p))
 
 -- the bytes passed stand before what is left of the field
-pub first-grows :
+pub first_grows :
     (s : List ℕ) (i : ℕ) → i < length s → (get_or s i 0 ≡ 32 → ⊥) → first_of s ≡ take i s ++ first_of (drop i s) →
     first_of s ≡ take (i + 1) s ++ first_of (drop (i + 1) s)
-first-grows s i h p q =
+first_grows s i h p q =
     q ∙ ap (λ (l : List ℕ). take i s ++ l) (first_more s i h p) ∙ rw (add-one i, take-suc s i 0 h) (simp append_assoc)
 
 pub first_ends : (s : List ℕ) (i : ℕ) → first_of s ≡ take i s ++ first_of (drop i s) → first_of (drop i s) ≡ [] → first_of s ≡ take i s
@@ -327,10 +327,10 @@ first_ends s i p q = p ∙ ap (λ (l : List ℕ). take i s ++ l) q ∙ simp appe
 -- ---- a letter
 
 module _ (s field : List ℕ) (e : field ≡ first_of s) where
-  pub letter-other : (length field ≡ 1 → ⊥) → 32 ≡ letter_of s
+  pub letter_other : (length field ≡ 1 → ⊥) → 32 ≡ letter_of s
   unfolding letter_of
-  letter-other p = rw (← e) (simp (ne_eqb (length field) 1 p))
+  letter_other p = rw (← e) (simp (ne_eqb (length field) 1 p))
 
-  pub letter-is : length field ≡ 1 → get_or field 0 0 ≡ letter_of s
+  pub letter_is : length field ≡ 1 → get_or field 0 0 ≡ letter_of s
   unfolding letter_of
-  letter-is p = rw (← e) (simp (eq-eqb (length field) 1 p))
+  letter_is p = rw (← e) (simp (eq-eqb (length field) 1 p))

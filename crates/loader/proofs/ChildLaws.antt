@@ -13,15 +13,15 @@ use Rattle.format.specs.Tree.{Property, Node, Nodes, none, depths, node_count, n
 use Rattle.format.specs.Encodes.{Block, after_properties}
 use Rattle.format.specs.Read.{read_be_u32}
 use Rattle.format.specs.Rows.{first_row, node_rows, node_numbers}
-use Rattle.format.proofs.Complete.{node-up}
-use Rattle.format.proofs.Rows.{node-pos}
+use Rattle.format.proofs.Complete.{node_up}
+use Rattle.format.proofs.Rows.{node_pos}
 use Rattle.loader.specs.declared.write.Props.{Props}
 use Rattle.loader.specs.declared.write.Passed.{Passed}
 use Rattle.loader.specs.Pass.{PropsHere, PropsState, props_state, props_after, first_at, HeadReady, head_numbers, HeadDone}
 use Rattle.loader.specs.Pass.{NodesHere, NodeHere, NodeReady, passed, node_after, nodes_after}
-use Rattle.loader.proofs.PropLaws.{after-long}
-use Rattle.loader.proofs.NodeLaws.{NodeParts, node-parts, NodesMore, nodes-more, nodes-none, token-inside, node-unique, nodes-unique}
-use Rattle.loader.proofs.NodeLaws.{linked, closed, after_first, after_none, after-node, Written, written}
+use Rattle.loader.proofs.PropLaws.{after_long}
+use Rattle.loader.proofs.NodeLaws.{NodeParts, node_parts, NodesMore, nodes_more, nodes_none, token_inside, node_unique, nodes_unique}
+use Rattle.loader.proofs.NodeLaws.{linked, closed, after_first, after_none, after_node_lem, Written, written}
 
 -- The node of row `parent`, which may be `depth` deep, has its first child at `start`.
 pub record NodesInv (b : List ℕ) (strings : Block) (depth parent start row₀ prow₀ : ℕ) (nodes₀ props₀ : List ℕ) (p row prow token : ℕ) (nodes props : List ℕ) : Type 0 where
@@ -43,21 +43,21 @@ pub record NodesInv (b : List ℕ) (strings : Block) (depth parent start row₀ 
 
 module _ {b : List ℕ} {strings : Block} {depth p row prow : ℕ} {nodes props : List ℕ} (h : NodeReady b strings depth p row prow nodes props) where
   parts : NodeParts b strings p h.tree
-  parts = node-parts h.tree h.here
+  parts = node_parts h.tree h.here
 
-  pub node-few : row + 1 < 2 ^ 32
-  node-few = omega (arith, h.node_few, parts.node_is)
+  pub node_few_lem : row + 1 < 2 ^ 32
+  node_few_lem = omega (arith, h.node_few, parts.node_is)
 
-  pub node-head : HeadReady b strings p row prow nodes props
+  pub node_head : HeadReady b strings p row prow nodes props
   unfolding node_width property_width
-  node-head = record {
+  node_head = record {
     xs = parts.xs;
     here = parts.props;
     ends = h.ends;
     name_inside = parts.name_inside;
     node_room = omega (arith, h.node_room, parts.node_is);
     prop_room = omega (arith, h.prop_room, parts.prop_is);
-    node_few = node-few;
+    node_few = node_few_lem;
     prop_few = omega (arith, h.prop_few, parts.prop_is);
     small = h.small;
   }
@@ -82,34 +82,34 @@ module _ {b : List ℕ} {strings : Block} {depth p row prow : ℕ} {nodes props 
     kids : NodesHere b strings r.next parts.cs
     kids = rw is_next parts.kids
 
-    nodes-long : length nodes₁ ≡ length nodes
-    nodes-long = ap length own.stored ∙ length-sets nodes (node_width * row) (head_numbers b parts.xs p row prow parent)
+    nodes_long_lem : length nodes₁ ≡ length nodes
+    nodes_long_lem = ap length own.stored ∙ length-sets nodes (node_width * row) (head_numbers b parts.xs p row prow parent)
 
-    props-long : length props₁ ≡ length props
-    props-long = ap length is_table ∙ after-long b strings parts.xs (first_at b p) prow props
+    props_long_lem : length props₁ ≡ length props
+    props_long_lem = ap length is_table ∙ after_long b strings parts.xs (first_at b p) prow props
 
-    pub node-start : {token : ℕ} → token ≡ or_zero (read_be_u32 b r.next)
+    pub node_start : {token : ℕ} → token ≡ or_zero (read_be_u32 b r.next)
         → NodesInv b strings depth row r.next (row + 1) r.row nodes₁ props₁ r.next (row + 1) r.row token nodes₁ props₁
     unfolding node_width property_width
-    node-start is_token = record {
+    node_start is_token = record {
       rest = parts.cs;
       here = kids;
       ends = h.ends;
       deep = omega (arith, h.deep, parts.deep_is);
-      node_room = omega (arith, h.node_room, parts.node_is, nodes-long);
-      prop_room = omega (arith, h.prop_room, parts.prop_is, is_row, props-long);
+      node_room = omega (arith, h.node_room, parts.node_is, nodes_long_lem);
+      prop_room = omega (arith, h.prop_room, parts.prop_is, is_row, props_long_lem);
       node_few = omega (arith, h.node_few, parts.node_is);
       prop_few = omega (arith, h.prop_few, parts.prop_is, is_row);
-      parent_few = omega (arith, node-few);
+      parent_few = omega (arith, node_few_lem);
       small = h.small;
       is_token = is_token;
-      same = λ ns k. ap (λ ns. nodes_after b strings ns r.next (row + 1) r.row row nodes₁ props₁) (nodes-unique kids k);
+      same = λ ns k. ap (λ ns. nodes_after b strings ns r.next (row + 1) r.row row nodes₁ props₁) (nodes_unique kids k);
     }
 
     module _ {q row' prow' token : ℕ} {nodes' props' : List ℕ}
         (inv : NodesInv b strings depth row r.next (row + 1) r.row nodes₁ props₁ q row' prow' token nodes' props') (stop : token ≢ BEGIN_NODE) where
       empty : inv.rest ≡ none
-      empty = nodes-none inv.rest inv.here (λ e. stop (inv.is_token ∙ e))
+      empty = nodes_none inv.rest inv.here (λ e. stop (inv.is_token ∙ e))
 
       all : record { next = q; row = row'; prow = prow'; nodes = nodes'; props = props' }
           ≡ nodes_after b strings parts.cs (after_properties (first_at b p) parts.xs) (row + 1) (prow + length parts.xs) row
@@ -125,32 +125,32 @@ module _ {b : List ℕ} {strings : Block} {depth p row prow : ℕ} {nodes props 
       unfolding closed
       node_end n here =
           ap closed all
-          ∙ after-node b strings parts.name parts.xs parts.cs p row prow parent nodes props parts.name_is parts.first parts.kids
-          ∙ ap (λ n. node_after b strings n p row prow parent NONE nodes props) (sym parts.is ∙ node-unique h.here here)
+          ∙ after_node_lem b strings parts.name parts.xs parts.cs p row prow parent nodes props parts.name_is parts.first parts.kids
+          ∙ ap (λ n. node_after b strings n p row prow parent NONE nodes props) (sym parts.is ∙ node_unique h.here here)
 
       whole : Written b strings h.tree p row prow parent NONE nodes props (record { next = q + 4; row = row'; prow = prow'; nodes = nodes'; props = props' })
       whole = written b strings h.tree p row prow parent NONE nodes props (node_end h.tree h.here)
 
-      pub node-nodes : length nodes' ≡ length nodes
-      node-nodes = whole.nodes_long
+      pub node_nodes : length nodes' ≡ length nodes
+      node_nodes = whole.nodes_long
 
-      pub node-props : length props' ≡ length props
-      node-props = whole.props_long
+      pub node_props : length props' ≡ length props
+      node_props = whole.props_long
 
 -- ---- the loop
 
 module _ {b : List ℕ} {strings : Block} {depth parent start row₀ prow₀ : ℕ} {nodes₀ props₀ : List ℕ} {p row prow token : ℕ} {nodes props : List ℕ}
     (inv : NodesInv b strings depth parent start row₀ prow₀ nodes₀ props₀ p row prow token nodes props) where
   pub turn_inside : p + 4 ≤ length b
-  turn_inside = token-inside inv.rest inv.here
+  turn_inside = token_inside inv.rest inv.here
 
   module _ (go : token ≡ BEGIN_NODE) where
     more : NodesMore b strings p inv.rest
-    more = nodes-more inv.rest inv.here (sym inv.is_token ∙ go)
+    more = nodes_more inv.rest inv.here (sym inv.is_token ∙ go)
 
-    pub child-ready : NodeReady b strings (depth - 1) p row prow nodes props
+    pub child_ready : NodeReady b strings (depth - 1) p row prow nodes props
     unfolding node_width property_width
-    child-ready = record {
+    child_ready = record {
       tree = more.n;
       here = more.first;
       ends = inv.ends;
@@ -168,15 +168,15 @@ module _ {b : List ℕ} {strings : Block} {depth parent start row₀ prow₀ : �
       unfolding passed
       child = written b strings more.n p row prow parent NONE nodes props (wrote more.n more.first)
 
-      pub child-few : r.row < 2 ^ 32
-      child-few = omega (arith, inv.node_few, more.node_is, child.row_is)
+      pub child_few : r.row < 2 ^ 32
+      child_few = omega (arith, inv.node_few, more.node_is, child.row_is)
 
-      pub child-room : node_width * (row + 1) ≤ length nodes'
+      pub child_room : node_width * (row + 1) ≤ length nodes'
       unfolding node_width
-      child-room = omega (arith, inv.node_room, more.node_is, child.nodes_long, node-pos more.n)
+      child_room = omega (arith, inv.node_room, more.node_is, child.nodes_long, node_pos more.n)
 
-      pub child-less : length b + 4 - r.next < length b + 4 - p
-      child-less = omega (arith, turn_inside, child.next_is, node-up more.n p)
+      pub child_less : length b + 4 - r.next < length b + 4 - p
+      child_less = omega (arith, turn_inside, child.next_is, node_up more.n p)
 
       module _ {token' : ℕ} {nodes'' : List ℕ} (is_token : token' ≡ or_zero (read_be_u32 b r.next))
           (link : (token' ≡ BEGIN_NODE → nodes'' ≡ set nodes' (node_width * row + 4) r.row) × (token' ≢ BEGIN_NODE → nodes'' ≡ nodes')) where
@@ -184,9 +184,9 @@ module _ {b : List ℕ} {strings : Block} {depth parent start row₀ prow₀ : �
         stored =
             linked more.n more.rest p row prow parent nodes more.here (is_token ∙ ap (λ q. or_zero (read_be_u32 b q)) child.next_is) child.row_is child.nodes_are link
 
-        pub child-again : NodesInv b strings depth parent start row₀ prow₀ nodes₀ props₀ r.next r.row r.prow token' nodes'' props'
+        pub child_again : NodesInv b strings depth parent start row₀ prow₀ nodes₀ props₀ r.next r.row r.prow token' nodes'' props'
         unfolding node_width property_width
-        child-again =
+        child_again =
             let kept : length nodes'' ≡ length nodes = ap length stored ∙ simp length-sets in
             record {
               rest = more.rest;

@@ -12,7 +12,7 @@ use Rattle.format.specs.Tree.{Property}
 use Rattle.format.specs.Encodes.{Block, after_properties}
 use Rattle.format.specs.Read.{aligned, read_be_u32, read_bstring0}
 use Rattle.reader.proofs.Numbers.{word_total}
-use Rattle.reader.proofs.Rounding.{aligned-total}
+use Rattle.reader.proofs.Rounding.{aligned_total}
 use Rattle.loader.specs.declared.write.Props.{Props}
 use Rattle.loader.specs.Pass.{string_length, PropsHere, PropsReady, PropsState, props_state, props_after, first_at, HeadReady, child_row, head_numbers, HeadDone}
 
@@ -22,10 +22,10 @@ module _ {b : List ℕ} {strings : Block} {p row prow : ℕ} {nodes props : List
     unfolding first_at string_length
     first =
         isFirst ∙ ap (λ n. or_else (p + 4 + n + 1) (aligned (p + 4 + n + 1) 4)) isLength
-        ∙ aligned-total (p + 4 + length (or_empty (read_bstring0 b (p + 4))) + 1) (omega (arith, h.name_inside, h.small))
+        ∙ aligned_total (p + 4 + length (or_empty (read_bstring0 b (p + 4))) + 1) (omega (arith, h.name_inside, h.small))
 
-    pub head-props : PropsReady b strings q prow props
-    head-props =
+    pub head_props : PropsReady b strings q prow props
+    head_props =
         rw first (record { xs = h.xs; here = h.here; ends = h.ends; room = h.prop_room; few = h.prop_few; small = h.small })
 
     module _ (r : Props) (props' : List ℕ) (wrote : (xs : List Property) → PropsHere b strings q xs → props_state r props' ≡ props_after b strings xs q prow props) where
@@ -33,16 +33,16 @@ module _ {b : List ℕ} {strings : Block} {p row prow : ℕ} {nodes props : List
       own = subst (λ q. (xs : List Property) → PropsHere b strings q xs → props_state r props' ≡ props_after b strings xs q prow props) first wrote
 
       module _ (xs : List Property) (k : PropsHere b strings (first_at b p) xs) where
-        next-is : r.next ≡ after_properties (first_at b p) xs
+        next_is : r.next ≡ after_properties (first_at b p) xs
         unfolding props_state props_after
-        next-is = ap (λ (s : PropsState). s.next) (own xs k)
+        next_is = ap (λ (s : PropsState). s.next) (own xs k)
 
         row_is : r.row ≡ prow + length xs
         unfolding props_state props_after
         row_is = ap (λ (s : PropsState). s.row) (own xs k)
 
-      pub head-up : prow ≤ r.row
-      head-up = omega (arith, row_is h.xs h.here)
+      pub head_up : prow ≤ r.row
+      head_up = omega (arith, row_is h.xs h.here)
 
       pub head_few : r.row - prow < 2 ^ 32
       head_few = omega (arith, row_is h.xs h.here, h.prop_few)
@@ -52,7 +52,7 @@ module _ {b : List ℕ} {strings : Block} {p row prow : ℕ} {nodes props : List
           → (xs : List Property) → PropsHere b strings (first_at b p) xs → HeadDone b strings xs p row prow parent nodes props r nodes' props'
       unfolding head_numbers string_length big_endian
       head_done {token} is_token isChild stored xs k =
-          let next = next-is xs k in
+          let next = next_is xs k in
           let there : r.next + 4 ≤ length b = omega (arith, next, k.stands.fits) in
           let count : r.row - prow ≡ length xs = omega (arith, row_is xs k) in
           let read : token ≡ word_at b (after_properties (first_at b p) xs) = is_token ∙ word_total b r.next there ∙ ap (word_at b) next in

@@ -18,15 +18,15 @@ use Rattle.format.specs.Read.{read_be_u32, read_bstring0, Read}
 use Rattle.format.specs.Rows.{first_row, node_rows, nodes_rows, property_rows, node_properties, nodes_properties, node_numbers, property_numbers}
 use Rattle.format.proofs.Tools.{if_yes, if_no}
 use Rattle.format.proofs.Answer.{ok_same}
-use Rattle.format.proofs.Read.{read-string}
-use Rattle.format.proofs.Complete.{begins, node-complete, nodes-complete}
-use Rattle.format.proofs.Rows.{node-properties, properties-length, first-then-later}
+use Rattle.format.proofs.Read.{read_string}
+use Rattle.format.proofs.Complete.{begins, node_complete, nodes_complete}
+use Rattle.format.proofs.Rows.{node_properties_lem, properties_length, first_then_later}
 use Rattle.reader.proofs.Numbers.{word_total}
-use Rattle.reader.proofs.Outcomes.{or-empty}
+use Rattle.reader.proofs.Outcomes.{or_empty_lem}
 use Rattle.loader.specs.Pass.{string_length, PropsHere, props_after, first_at, child_row, head_numbers}
 use Rattle.loader.specs.Pass.{NodesHere, NodeHere, State, node_after, nodes_after}
-use Rattle.loader.proofs.RowLaws.{relink, properties-then}
-use Rattle.loader.proofs.PropLaws.{token-is}
+use Rattle.loader.proofs.RowLaws.{relink, properties_then}
+use Rattle.loader.proofs.PropLaws.{token_is}
 
 -- ---- what stands at a node
 
@@ -57,16 +57,16 @@ pub record NodesMore (b : List ℕ) (strings : Block) (p : ℕ) (ns : Nodes) : T
 
 module _ {b : List ℕ} {strings : Block} where
   -- what follows a node's properties opens no further one
-  props-here : (cs : Nodes) {p : ℕ} {xs : List Property} → GoodProperties xs → PropertiesAt b strings p xs → NodesHere b strings (after_properties p xs) cs
+  props_here : (cs : Nodes) {p : ℕ} {xs : List Property} → GoodProperties xs → PropertiesAt b strings p xs → NodesHere b strings (after_properties p xs) cs
       → PropsHere b strings p xs
   unfolding NodesAt after_nodes BEGIN_NODE END_NODE PROP
-  props-here none good at kids = record { good = good; at = at; token = 2; stands = kids.ends; other = omega arith }
-  props-here (n & ns) good at kids = record { good = good; at = at; token = 1; stands = begins b strings n kids.at.0; other = omega arith }
+  props_here none good at kids = record { good = good; at = at; token = 2; stands = kids.ends; other = omega arith }
+  props_here (n & ns) good at kids = record { good = good; at = at; token = 1; stands = begins b strings n kids.at.0; other = omega arith }
 
-  pub node-parts : {p : ℕ} (n : Node) → NodeHere b strings p n → NodeParts b strings p n
+  pub node_parts : {p : ℕ} (n : Node) → NodeHere b strings p n → NodeParts b strings p n
   unfolding GoodNode NodeAt first_at after_name string_length node_count property_count depth
-  node-parts {p} (node name xs cs) h =
-      let name_is : length (or_empty (read_bstring0 b (p + 4))) ≡ length name = ap length (or-empty (read-string b (p + 4) h.good.0.nonzero h.at.1)) in
+  node_parts {p} (node name xs cs) h =
+      let name_is : length (or_empty (read_bstring0 b (p + 4))) ≡ length name = ap length (or_empty_lem (read_string b (p + 4) h.good.0.nonzero h.at.1)) in
       let first : align (p + 4 + length (or_empty (read_bstring0 b (p + 4))) + 1) 4 ≡ align (p + 4 + length name + 1) 4 = ap (λ n. align (p + 4 + n + 1) 4) name_is in
       let fits = rw length-append at h.at.1.fits in
       let kids : NodesHere b strings (after_properties (align (p + 4 + length name + 1) 4) xs) cs = record { good = h.good.2; at = h.at.3; ends = h.at.4 } in
@@ -81,28 +81,28 @@ module _ {b : List ℕ} {strings : Block} where
         name_is = name_is;
         first = first;
         name_inside = omega arith;
-        props = rw first (props-here cs h.good.1 h.at.2 kids);
+        props = rw first (props_here cs h.good.1 h.at.2 kids);
         kids = rw first kids;
       }
 
   -- the token of some nodes: the first one's, or the end
-  token-none : {p : ℕ} → NodesHere b strings p none → or_zero (read_be_u32 b p) ≡ END_NODE
+  token_none : {p : ℕ} → NodesHere b strings p none → or_zero (read_be_u32 b p) ≡ END_NODE
   unfolding after_nodes
-  token-none h = token-is h.ends
+  token_none h = token_is h.ends
 
-  token-some : {p : ℕ} {n : Node} {ns : Nodes} → NodesHere b strings p (n & ns) → or_zero (read_be_u32 b p) ≡ BEGIN_NODE
+  token_some : {p : ℕ} {n : Node} {ns : Nodes} → NodesHere b strings p (n & ns) → or_zero (read_be_u32 b p) ≡ BEGIN_NODE
   unfolding NodesAt
-  token-some {p} {n} h = token-is (begins b strings n h.at.0)
+  token_some {p} {n} h = token_is (begins b strings n h.at.0)
 
-  pub token-inside : {p : ℕ} (ns : Nodes) → NodesHere b strings p ns → p + 4 ≤ length b
+  pub token_inside : {p : ℕ} (ns : Nodes) → NodesHere b strings p ns → p + 4 ≤ length b
   unfolding NodesAt after_nodes big_endian
-  token-inside none h = h.ends.fits
-  token-inside (n & ns) h = (begins b strings n h.at.0).fits
+  token_inside none h = h.ends.fits
+  token_inside (n & ns) h = (begins b strings n h.at.0).fits
 
-  pub nodes-more : {p : ℕ} (ns : Nodes) → NodesHere b strings p ns → or_zero (read_be_u32 b p) ≡ BEGIN_NODE → NodesMore b strings p ns
+  pub nodes_more : {p : ℕ} (ns : Nodes) → NodesHere b strings p ns → or_zero (read_be_u32 b p) ≡ BEGIN_NODE → NodesMore b strings p ns
   unfolding GoodNodes NodesAt after_nodes node_counts property_counts depths BEGIN_NODE END_NODE
-  nodes-more none h e = absurd (omega (arith, token-none h))
-  nodes-more (n & ns) h e = record {
+  nodes_more none h e = absurd (omega (arith, token_none h))
+  nodes_more (n & ns) h e = record {
     n = n;
     rest = ns;
     is = refl;
@@ -113,29 +113,29 @@ module _ {b : List ℕ} {strings : Block} where
     here = record { good = h.good.1; at = h.at.1; ends = h.ends };
   }
 
-  pub nodes-none : {p : ℕ} (ns : Nodes) → NodesHere b strings p ns → or_zero (read_be_u32 b p) ≢ BEGIN_NODE → ns ≡ none
-  nodes-none none h n = refl
-  nodes-none (m & ms) h n = absurd (n (token-some h))
+  pub nodes_none : {p : ℕ} (ns : Nodes) → NodesHere b strings p ns → or_zero (read_be_u32 b p) ≢ BEGIN_NODE → ns ≡ none
+  nodes_none none h n = refl
+  nodes_none (m & ms) h n = absurd (n (token_some h))
 
-  pub node-unique : {p : ℕ} {n m : Node} → NodeHere b strings p n → NodeHere b strings p m → n ≡ m
-  node-unique {p} {n} {m} h k =
-      let e = node-complete b strings n (depth n + depth m) p h.good h.at (omega arith) in
-      let f = node-complete b strings m (depth n + depth m) p k.good k.at (omega arith) in
+  pub node_unique : {p : ℕ} {n m : Node} → NodeHere b strings p n → NodeHere b strings p m → n ≡ m
+  node_unique {p} {n} {m} h k =
+      let e = node_complete b strings n (depth n + depth m) p h.good h.at (omega arith) in
+      let f = node_complete b strings m (depth n + depth m) p k.good k.at (omega arith) in
       ap (λ (r : Read Node). r.value) (ok_same (sym e ∙ f))
 
-  pub nodes-unique : {p : ℕ} {ns ms : Nodes} → NodesHere b strings p ns → NodesHere b strings p ms → ns ≡ ms
-  nodes-unique {p} {ns} {ms} h k =
+  pub nodes_unique : {p : ℕ} {ns ms : Nodes} → NodesHere b strings p ns → NodesHere b strings p ms → ns ≡ ms
+  nodes_unique {p} {ns} {ms} h k =
       let d = depths ns + depths ms in
-      let e = nodes-complete b strings ns d (length b) p (omega arith) h.good h.at h.ends (omega arith) in
-      let f = nodes-complete b strings ms d (length b) p (omega arith) k.good k.at k.ends (omega arith) in
+      let e = nodes_complete b strings ns d (length b) p (omega arith) h.good h.at h.ends (omega arith) in
+      let f = nodes_complete b strings ms d (length b) p (omega arith) k.good k.at k.ends (omega arith) in
       ap (λ (r : Read Nodes). r.value) (ok_same (sym e ∙ f))
 
   -- ---- what is written
 
-  first-child : {p : ℕ} (row : ℕ) (ns : Nodes) → NodesHere b strings p ns → child_row (word_at b p) row ≡ first_row ns row
+  first_child : {p : ℕ} (row : ℕ) (ns : Nodes) → NodesHere b strings p ns → child_row (word_at b p) row ≡ first_row ns row
   unfolding child_row first_row BEGIN_NODE END_NODE
-  first-child {p} row none h = if_no _ _ (ne_eqb (word_at b p) 1 (λ e. omega (arith, token-none h, word_total b p (token-inside none h))))
-  first-child {p} row (n & ns) h = if_yes _ _ (eq-eqb _ _ (sym (word_total b p (token-inside (n & ns) h)) ∙ token-some h))
+  first_child {p} row none h = if_no _ _ (ne_eqb (word_at b p) 1 (λ e. omega (arith, token_none h, word_total b p (token_inside none h))))
+  first_child {p} row (n & ns) h = if_yes _ _ (eq-eqb _ _ (sym (word_total b p (token_inside (n & ns) h)) ∙ token_some h))
 
   -- the next sibling's row, stored where the token after a node opens one
   pub linked : (n : Node) (rest : Nodes) (p row prow parent : ℕ) (t : List ℕ) {token next : ℕ} {t' t'' : List ℕ}
@@ -144,9 +144,9 @@ module _ {b : List ℕ} {strings : Block} where
       → (token ≡ BEGIN_NODE → t'' ≡ set t' (node_width * row + 4) next) × (token ≢ BEGIN_NODE → t'' ≡ t')
       → t'' ≡ sets t (node_width * row) (node_numbers (node_rows n p row prow parent (first_row rest (row + node_count n))))
   unfolding first_row BEGIN_NODE END_NODE
-  linked n none p row prow parent t here is_token is_next wrote link = link.1 (λ e. omega (arith, token-none here)) ∙ wrote
+  linked n none p row prow parent t here is_token is_next wrote link = link.1 (λ e. omega (arith, token_none here)) ∙ wrote
   linked n (m & ms) p row prow parent t {token} {next} here is_token is_next wrote link =
-      link.0 (is_token ∙ token-some here) ∙ ap (λ l. set l (node_width * row + 4) next) wrote ∙ relink n p row prow parent NONE next t ∙ rw is_next
+      link.0 (is_token ∙ token_some here) ∙ ap (λ l. set l (node_width * row + 4) next) wrote ∙ relink n p row prow parent NONE next t ∙ rw is_next
 
 -- a state at the end of a node's children, past the node's closing token
 unfoldable pub closed : State → State
@@ -161,9 +161,9 @@ module _ (b : List ℕ) (strings : Block) where
   unfolding nodes_after after_nodes node_counts property_counts nodes_properties
   after_first n rest p row prow parent nodes props =
       rw (
-        first-then-later nodes n rest p row prow parent,
-        properties-then props prow (property_count n) (node_properties b strings.start n p) (nodes_properties b strings.start rest (after_node p n))
-            (node-properties b strings.start n p),
+        first_then_later nodes n rest p row prow parent,
+        properties_then props prow (property_count n) (node_properties b strings.start n p) (nodes_properties b strings.start rest (after_node p n))
+            (node_properties_lem b strings.start n p),
         ← add_assoc row (node_count n) (node_counts rest),
         ← add_assoc prow (property_count n) (property_counts rest),
       )
@@ -174,25 +174,25 @@ module _ (b : List ℕ) (strings : Block) where
   after_none p row prow parent nodes props = rw (add-zero row, add-zero prow)
 
   -- a node is its head, then its children
-  pub after-node : (name : List ℕ) (xs : List Property) (cs : Nodes) (p row prow parent : ℕ) (nodes props : List ℕ)
+  pub after_node_lem : (name : List ℕ) (xs : List Property) (cs : Nodes) (p row prow parent : ℕ) (nodes props : List ℕ)
       → string_length b (p + 4) ≡ length name → first_at b p ≡ after_name p name → NodesHere b strings (after_properties (first_at b p) xs) cs
       → closed (nodes_after b strings cs (after_properties (first_at b p) xs) (row + 1) (prow + length xs) row
       (sets nodes (node_width * row) (head_numbers b xs p row prow parent)) (props_after b strings xs (first_at b p) prow props).table)
       ≡ node_after b strings (node name xs cs) p row prow parent NONE nodes props
   unfolding closed node_after nodes_after props_after node_rows node_numbers node_properties node_count property_count after_node head_numbers node_width
-  after-node name xs cs p row prow parent nodes props name_is first kids =
+  after_node_lem name xs cs p row prow parent nodes props name_is first kids =
       let e : 7 * (row + 1) ≡ suc (suc (suc (suc (suc (suc (suc (7 * row))))))) = omega arith in
       let f : row + suc (node_counts cs) ≡ row + 1 + node_counts cs = omega arith in
       let g : prow + (length xs + property_counts cs) ≡ prow + length xs + property_counts cs = omega arith in
       rw (
-        first-child (row + 1) cs kids,
+        first_child (row + 1) cs kids,
         first,
         name_is,
         e,
         f,
         g,
-        properties-then props prow (length xs) (property_rows b strings.start xs (after_name p name)) (nodes_properties b strings.start cs (after_properties (after_name p name) xs))
-            (properties-length b strings.start xs (after_name p name)),
+        properties_then props prow (length xs) (property_rows b strings.start xs (after_name p name)) (nodes_properties b strings.start cs (after_properties (after_name p name) xs))
+            (properties_length b strings.start xs (after_name p name)),
       )
 
 -- ---- what `write_node` promises, part by part

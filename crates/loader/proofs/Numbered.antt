@@ -4,10 +4,10 @@ use Prim.Native.Nat.{ℕ}
 use mathlib.Core.List.{List}
 use lib.ListN.{get_or}
 use Rattle.format.specs.Answer.{Outcome, ok, refused, numbers}
-use Rattle.format.proofs.Answer.{numbers-same}
+use Rattle.format.proofs.Answer.{numbers_same}
 use Rattle.survey.specs.Outcomes.{why_of}
 use Rattle.survey.specs.declared.DeviceTree.{DeviceTree}
-use Rattle.survey.proofs.Determined.{error_of, error-back}
+use Rattle.survey.proofs.Determined.{error_of, error_back}
 use Rattle.survey.proofs.FoundLaws.{carried}
 use Rattle.loader.specs.Numbers.{loaded_numbers}
 use Rattle.loader.specs.declared.Loaded.{Loaded}
@@ -25,18 +25,18 @@ back (refused r) = Refused (error_of r)
 answer_back : (r : Loaded) → back (outcome_of r) ≡ r
 unfolding back outcome_of
 answer_back (Tree t) = refl
-answer_back (Refused why) = ap Refused (error-back why)
+answer_back (Refused why) = ap Refused (error_back why)
 
 tree_back : List ℕ → DeviceTree
 tree_back ns = record { version = get_or ns 0 0; boot_cpuid_phys = get_or ns 1 0; reserved = get_or ns 2 0; nodes = get_or ns 3 0; props = get_or ns 4 0 }
 
-by-outcome : (r : Loaded) → loaded_numbers r ≡ numbers carried (outcome_of r)
+by_outcome : (r : Loaded) → loaded_numbers r ≡ numbers carried (outcome_of r)
 unfolding loaded_numbers outcome_of numbers carried
-by-outcome (Tree t) = refl
-by-outcome (Refused why) = refl
+by_outcome (Tree t) = refl
+by_outcome (Refused why) = refl
 
-pub loaded-same : (r s : Loaded) → loaded_numbers r ≡ loaded_numbers s → r ≡ s
+pub loaded_same : (r s : Loaded) → loaded_numbers r ≡ loaded_numbers s → r ≡ s
 unfolding carried tree_back
-loaded-same r s e =
-    let same : outcome_of r ≡ outcome_of s = numbers-same carried tree_back (λ t. refl) (outcome_of r) (outcome_of s) (sym (by-outcome r) ∙ e ∙ by-outcome s) in
+loaded_same r s e =
+    let same : outcome_of r ≡ outcome_of s = numbers_same carried tree_back (λ t. refl) (outcome_of r) (outcome_of s) (sym (by_outcome r) ∙ e ∙ by_outcome s) in
     sym (answer_back r) ∙ ap back same ∙ answer_back s

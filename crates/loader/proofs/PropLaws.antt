@@ -16,38 +16,38 @@ use Rattle.format.specs.Encodes.{GoodName, GoodProperties, Block, PropertyAt, Pr
 use Rattle.format.specs.Read.{aligned, read_be_u32, read_bstring0, Read}
 use Rattle.format.specs.Rows.{property_row, property_rows, property_numbers}
 use Rattle.format.proofs.Answer.{ok_same}
-use Rattle.format.proofs.Bytes.{value-is, has-front-of, align-up}
-use Rattle.format.proofs.Read.{read_word, read-string}
-use Rattle.format.proofs.Complete.{properties-complete}
+use Rattle.format.proofs.Bytes.{value_is, has_front_of, align_up}
+use Rattle.format.proofs.Read.{read_word, read_string}
+use Rattle.format.proofs.Complete.{properties_complete}
 use Rattle.reader.proofs.Numbers.{word_total}
-use Rattle.reader.proofs.Outcomes.{or-zero, or-empty}
-use Rattle.reader.proofs.Rounding.{aligned-total}
+use Rattle.reader.proofs.Outcomes.{or_zero_lem, or_empty_lem}
+use Rattle.reader.proofs.Rounding.{aligned_total}
 use Rattle.loader.specs.Pass.{string_length, name_start, name_length, PropReady, prop_numbers, PropsHere, PropsReady, PropsState, props_after}
 
 -- ---- one property: the numbers that were read are those of its row
 
 module _ {b : List ℕ} {strings : Block} {p row : ℕ} {table : List ℕ} (h : PropReady b strings p row table) where
-  prop-size : {size : ℕ} → size ≡ or_zero (read_be_u32 b (p + 4)) → size ≡ word_at b (p + 4)
-  prop-size e = e ∙ word_total b (p + 4) (omega (arith, h.inside))
+  prop_size : {size : ℕ} → size ≡ or_zero (read_be_u32 b (p + 4)) → size ≡ word_at b (p + 4)
+  prop_size e = e ∙ word_total b (p + 4) (omega (arith, h.inside))
 
-  pub prop-next : {size next : ℕ} → size ≡ or_zero (read_be_u32 b (p + 4)) → next ≡ or_else (p + 12 + size) (aligned (p + 12 + size) 4) → next ≡ align (p + 12 + word_at b (p + 4)) 4
-  prop-next e k = k ∙ ap (λ n. or_else (p + 12 + n) (aligned (p + 12 + n) 4)) (prop-size e) ∙ aligned-total (p + 12 + word_at b (p + 4)) (omega (arith, h.inside, h.small))
+  pub prop_next : {size next : ℕ} → size ≡ or_zero (read_be_u32 b (p + 4)) → next ≡ or_else (p + 12 + size) (aligned (p + 12 + size) 4) → next ≡ align (p + 12 + word_at b (p + 4)) 4
+  prop_next e k = k ∙ ap (λ n. or_else (p + 12 + n) (aligned (p + 12 + n) 4)) (prop_size e) ∙ aligned_total (p + 12 + word_at b (p + 4)) (omega (arith, h.inside, h.small))
 
-  pub prop-name : {offset : ℕ} → offset ≡ or_zero (read_be_u32 b (p + 8)) → strings.start + offset ≡ name_start b strings p
+  pub prop_name : {offset : ℕ} → offset ≡ or_zero (read_be_u32 b (p + 8)) → strings.start + offset ≡ name_start b strings p
   unfolding name_start
-  prop-name e = ap (λ n. strings.start + n) (e ∙ word_total b (p + 8) (omega (arith, h.inside)))
+  prop_name e = ap (λ n. strings.start + n) (e ∙ word_total b (p + 8) (omega (arith, h.inside)))
 
-  pub prop-length : {offset len : ℕ} → offset ≡ or_zero (read_be_u32 b (p + 8))
+  pub prop_length : {offset len : ℕ} → offset ≡ or_zero (read_be_u32 b (p + 8))
       → len ≡ length (or_empty (read_bstring0 (take strings.end b) (strings.start + offset))) → len ≡ name_length b strings p
   unfolding name_length string_length
-  prop-length e k = k ∙ ap (λ n. length (or_empty (read_bstring0 (take strings.end b) n))) (prop-name e)
+  prop_length e k = k ∙ ap (λ n. length (or_empty (read_bstring0 (take strings.end b) n))) (prop_name e)
 
-  pub prop-stored : {size offset len : ℕ} {table' : List ℕ} → size ≡ or_zero (read_be_u32 b (p + 4)) → offset ≡ or_zero (read_be_u32 b (p + 8))
+  pub prop_stored : {size offset len : ℕ} {table' : List ℕ} → size ≡ or_zero (read_be_u32 b (p + 4)) → offset ≡ or_zero (read_be_u32 b (p + 8))
       → len ≡ length (or_empty (read_bstring0 (take strings.end b) (strings.start + offset)))
       → table' ≡ sets table (property_width * row) ((strings.start + offset) ∷ len ∷ (p + 12) ∷ size ∷ [])
       → table' ≡ sets table (property_width * row) (prop_numbers b strings p)
   unfolding prop_numbers
-  prop-stored isSize isOffset isLength e = e ∙ rw (prop-name isOffset, prop-length isOffset isLength, prop-size isSize)
+  prop_stored isSize isOffset isLength e = e ∙ rw (prop_name isOffset, prop_length isOffset isLength, prop_size isSize)
 
 -- ---- what stands there
 
@@ -68,52 +68,52 @@ record PropsMore (b : List ℕ) (strings : Block) (p : ℕ) (xs : List Property)
   here : PropsHere b strings (after_property p x) rest
 
 -- the token that stands at p is what the total reader gives there
-pub token-is : {b : List ℕ} {p n : ℕ} → Has b p (word n) → or_zero (read_be_u32 b p) ≡ n
-token-is {b} {p} h = or-zero (read_word b p h)
+pub token_is : {b : List ℕ} {p n : ℕ} → Has b p (word n) → or_zero (read_be_u32 b p) ≡ n
+token_is {b} {p} h = or_zero_lem (read_word b p h)
 
 module _ {b : List ℕ} {strings : Block} where
-  prop-facts : {p : ℕ} (x : Property) → GoodName x.name → PropertyAt b strings p x → PropFacts b strings p x
+  prop_facts : {p : ℕ} (x : Property) → GoodName x.name → PropertyAt b strings p x → PropFacts b strings p x
   unfolding name_start name_length string_length
-  prop-facts {p} x good at =
-      let offset : word_at b (p + 8) ≡ at.offset = value-is b (p + 8) 4 at.offset (omega arith) at.name_offset in
-      let fits = rw length-append at (has-front-of b strings.end _ _ at.name).fits in
+  prop_facts {p} x good at =
+      let offset : word_at b (p + 8) ≡ at.offset = value_is b (p + 8) 4 at.offset (omega arith) at.name_offset in
+      let fits = rw length-append at (has_front_of b strings.end _ _ at.name).fits in
       record {
-        size_is = value-is b (p + 4) 4 (length x.value) (omega arith) at.size;
-        name_is = rw offset (ap length (or-empty (read-string (take strings.end b) (strings.start + at.offset) good.nonzero at.name)));
+        size_is = value_is b (p + 4) 4 (length x.value) (omega arith) at.size;
+        name_is = rw offset (ap length (or_empty_lem (read_string (take strings.end b) (strings.start + at.offset) good.nonzero at.name)));
         inside = at.inside;
         name_inside = omega arith;
       }
 
-  prop-row : {p : ℕ} (x : Property) → PropFacts b strings p x → prop_numbers b strings p ≡ property_numbers (property_row b strings.start p x ∷ [])
+  prop_row : {p : ℕ} (x : Property) → PropFacts b strings p x → prop_numbers b strings p ≡ property_numbers (property_row b strings.start p x ∷ [])
   unfolding prop_numbers property_numbers property_row name_start
-  prop-row x f = rw (f.name_is, f.size_is)
+  prop_row x f = rw (f.name_is, f.size_is)
 
-  props-more : {p : ℕ} (xs : List Property) → PropsHere b strings p xs → or_zero (read_be_u32 b p) ≡ PROP → PropsMore b strings p xs
+  props_more : {p : ℕ} (xs : List Property) → PropsHere b strings p xs → or_zero (read_be_u32 b p) ≡ PROP → PropsMore b strings p xs
   unfolding GoodProperties PropertiesAt after_properties
-  props-more [] h e = absurd (h.other (sym (token-is h.stands) ∙ e))
-  props-more (x ∷ xs) h e = record {
+  props_more [] h e = absurd (h.other (sym (token_is h.stands) ∙ e))
+  props_more (x ∷ xs) h e = record {
     x = x;
     rest = xs;
     is = refl;
     size_is = refl;
-    facts = prop-facts x h.good.0 h.at.0;
+    facts = prop_facts x h.good.0 h.at.0;
     here = record { good = h.good.1; at = h.at.1; token = h.token; stands = h.stands; other = h.other };
   }
 
-  props-none : {p : ℕ} (xs : List Property) → PropsHere b strings p xs → or_zero (read_be_u32 b p) ≢ PROP → xs ≡ []
+  props_none : {p : ℕ} (xs : List Property) → PropsHere b strings p xs → or_zero (read_be_u32 b p) ≢ PROP → xs ≡ []
   unfolding PropertiesAt
-  props-none [] h n = refl
-  props-none (x ∷ xs) h n = absurd (n (token-is h.at.0.token))
+  props_none [] h n = refl
+  props_none (x ∷ xs) h n = absurd (n (token_is h.at.0.token))
 
-  props-inside : {p : ℕ} (xs : List Property) → PropsHere b strings p xs → p + 4 ≤ length b
+  props_inside : {p : ℕ} (xs : List Property) → PropsHere b strings p xs → p + 4 ≤ length b
   unfolding PropertiesAt after_properties big_endian
-  props-inside [] h = h.stands.fits
-  props-inside (x ∷ xs) h = h.at.0.token.fits
+  props_inside [] h = h.stands.fits
+  props_inside (x ∷ xs) h = h.at.0.token.fits
 
-  props-unique : {p : ℕ} {xs ys : List Property} → PropsHere b strings p xs → PropsHere b strings p ys → xs ≡ ys
-  props-unique {p} {xs} {ys} h k =
-      let e = properties-complete b strings xs (length b) p (omega arith) h.good h.at h.stands h.other in
-      let f = properties-complete b strings ys (length b) p (omega arith) k.good k.at k.stands k.other in
+  props_unique : {p : ℕ} {xs ys : List Property} → PropsHere b strings p xs → PropsHere b strings p ys → xs ≡ ys
+  props_unique {p} {xs} {ys} h k =
+      let e = properties_complete b strings xs (length b) p (omega arith) h.good h.at h.stands h.other in
+      let f = properties_complete b strings ys (length b) p (omega arith) k.good k.at k.stands k.other in
       ap (λ (r : Read (List Property)). r.value) (ok_same (sym e ∙ f))
 
 -- ---- what is written
@@ -132,9 +132,9 @@ module _ (b : List ℕ) (strings : Block) where
   unfolding props_after property_rows property_numbers after_properties
   after_none p row table = rw add-zero
 
-  pub after-long : (xs : List Property) (p row : ℕ) (table : List ℕ) → length (props_after b strings xs p row table).table ≡ length table
+  pub after_long : (xs : List Property) (p row : ℕ) (table : List ℕ) → length (props_after b strings xs p row table).table ≡ length table
   unfolding props_after
-  after-long xs p row table = length-sets table (property_width * row) (property_numbers (property_rows b strings.start xs p))
+  after_long xs p row table = length-sets table (property_width * row) (property_numbers (property_rows b strings.start xs p))
 
 -- ---- the loop over properties: what is left to write from p on leaves what writing from pos on leaves
 
@@ -148,36 +148,36 @@ pub record PropsInv (b : List ℕ) (strings : Block) (pos row : ℕ) (table₀ :
   pub same : (xs : List Property) → PropsHere b strings pos xs → props_after b strings rest p r table ≡ props_after b strings xs pos row table₀
 
 module _ {b : List ℕ} {strings : Block} {pos row : ℕ} {table₀ : List ℕ} where
-  pub props-start : PropsReady b strings pos row table₀ → PropsInv b strings pos row table₀ pos row table₀
-  props-start h = record {
+  pub props_start : PropsReady b strings pos row table₀ → PropsInv b strings pos row table₀ pos row table₀
+  props_start h = record {
     rest = h.xs;
     here = h.here;
     ends = h.ends;
     room = h.room;
     few = h.few;
     small = h.small;
-    same = λ xs k. ap (λ ys. props_after b strings ys pos row table₀) (props-unique h.here k);
+    same = λ xs k. ap (λ ys. props_after b strings ys pos row table₀) (props_unique h.here k);
   }
 
   module _ {p r : ℕ} {table : List ℕ} (inv : PropsInv b strings pos row table₀ p r table) where
-    pub props-end : or_zero (read_be_u32 b p) ≢ PROP → (xs : List Property) → PropsHere b strings pos xs
+    pub props_end : or_zero (read_be_u32 b p) ≢ PROP → (xs : List Property) → PropsHere b strings pos xs
         → record { next = p; row = r; table = table } ≡ props_after b strings xs pos row table₀
-    props-end n xs k =
-        sym (after_none b strings p r table) ∙ ap (λ ys. props_after b strings ys p r table) (sym (props-none inv.rest inv.here n)) ∙ inv.same xs k
+    props_end n xs k =
+        sym (after_none b strings p r table) ∙ ap (λ ys. props_after b strings ys p r table) (sym (props_none inv.rest inv.here n)) ∙ inv.same xs k
 
-    pub props-long : PropsReady b strings pos row table₀ → length table ≡ length table₀
-    props-long h =
-        sym (after-long b strings inv.rest p r table)
+    pub props_long_lem : PropsReady b strings pos row table₀ → length table ≡ length table₀
+    props_long_lem h =
+        sym (after_long b strings inv.rest p r table)
         ∙ ap (λ (s : PropsState). length s.table) (inv.same h.xs h.here)
-        ∙ after-long b strings h.xs pos row table₀
+        ∙ after_long b strings h.xs pos row table₀
 
     module _ (token : or_zero (read_be_u32 b p) ≡ PROP) where
       more : PropsMore b strings p inv.rest
-      more = props-more inv.rest inv.here token
+      more = props_more inv.rest inv.here token
 
-      pub props-ready : PropReady b strings p r table
+      pub props_ready : PropReady b strings p r table
       unfolding property_width
-      props-ready =
+      props_ready =
           let facts = more.facts in
           record {
             inside = omega (arith, facts.size_is, facts.inside);
@@ -187,21 +187,21 @@ module _ {b : List ℕ} {strings : Block} {pos row : ℕ} {table₀ : List ℕ} 
             small = inv.small;
           }
 
-      pub props-few : r + 1 < 2 ^ 32
-      props-few = omega (arith, inv.few, more.size_is)
+      pub props_few : r + 1 < 2 ^ 32
+      props_few = omega (arith, inv.few, more.size_is)
 
       module _ {q : ℕ} (next : q ≡ align (p + 12 + word_at b (p + 4)) 4) where
-        pub props-less : length b + 4 - q < length b + 4 - p
-        props-less = omega (arith, props-inside inv.rest inv.here, align-up (p + 12 + word_at b (p + 4)))
+        pub props_less : length b + 4 - q < length b + 4 - p
+        props_less = omega (arith, props_inside inv.rest inv.here, align_up (p + 12 + word_at b (p + 4)))
 
         after : after_property p more.x ≡ q
         unfolding after_property
         after = sym (next ∙ ap (λ n. align (p + 12 + n) 4) more.facts.size_is)
 
-        pub props-again : {table' : List ℕ} → table' ≡ sets table (property_width * r) (prop_numbers b strings p) → PropsInv b strings pos row table₀ q (r + 1) table'
-        props-again {table'} e =
+        pub props_again : {table' : List ℕ} → table' ≡ sets table (property_width * r) (prop_numbers b strings p) → PropsInv b strings pos row table₀ q (r + 1) table'
+        props_again {table'} e =
             let stored : sets table (property_width * r) (property_numbers (property_row b strings.start p more.x ∷ [])) ≡ table' =
-            sym (e ∙ ap (sets table (property_width * r)) (prop-row more.x more.facts)) in
+            sym (e ∙ ap (sets table (property_width * r)) (prop_row more.x more.facts)) in
             let long : length table' ≡ length table = ap length e ∙ length-sets table (property_width * r) (prop_numbers b strings p) in
             let left : r + length inv.rest ≡ r + 1 + length more.rest = omega (arith, more.size_is) in
             record {

@@ -17,10 +17,10 @@ use Rattle.format.specs.Read.{read_be_u64, reservation}
 use Rattle.format.specs.Rows.{reservation_numbers}
 use Rattle.format.proofs.Tools.{if-went}
 use Rattle.format.proofs.Answer.{ok_same, step}
-use Rattle.format.proofs.Read.{read-inside}
-use Rattle.reader.proofs.Outcomes.{or-zero}
+use Rattle.format.proofs.Read.{read_inside}
+use Rattle.reader.proofs.Outcomes.{or_zero_lem}
 use Rattle.survey.specs.Reserve.{listed}
-use Rattle.survey.proofs.ReserveLaws.{list-turn}
+use Rattle.survey.proofs.ReserveLaws.{list_turn}
 use Rattle.loader.specs.Store.{StoreReady}
 
 -- what follows the first entry of a list at p
@@ -59,7 +59,7 @@ module _ (b : List ℕ) where
   front : (p : ℕ) (rs : List Reservation) → listed b p ≡ ok rs → Front b p rs
   unfolding reservation
   front p rs e =
-      step _ _ (sym (list-turn b p) ∙ e) λ first isFirst e.
+      step _ _ (sym (list_turn b p) ∙ e) λ first isFirst e.
       step _ _ isFirst λ offset isOffset k.
       step _ _ k λ size isSize k.
       record {
@@ -71,9 +71,9 @@ module _ (b : List ℕ) where
 
   -- ---- the stores
 
-  pub store-start : (pos : ℕ) (table : List ℕ) → StoreReady b pos table → StoreLeft b pos table pos 0 table
+  pub store_start : (pos : ℕ) (table : List ℕ) → StoreReady b pos table → StoreLeft b pos table pos 0 table
   unfolding reservation_width
-  store-start pos table h = record {
+  store_start pos table h = record {
     rest = h.rs;
     here = h.here;
     room = omega (arith, h.room);
@@ -85,11 +85,11 @@ module _ (b : List ℕ) where
     found : Front b p left.rest
     found = front p left.rest left.here
 
-    pub store-inside : p + 16 ≤ length b
-    store-inside = omega (arith, read-inside b 8 (p + 8) found.size)
+    pub store_inside : p + 16 ≤ length b
+    store_inside = omega (arith, read_inside b 8 (p + 8) found.size)
 
-    pub store-room : at + 2 ≤ length table
-    store-room = omega (arith, left.room, ap (λ (l : List Reservation). length l) found.after.is)
+    pub store_room : at + 2 ≤ length table
+    store_room = omega (arith, left.room, ap (λ (l : List Reservation). length l) found.after.is)
 
     -- the row that the code stores is the first of the list
     module _ {offset size : ℕ} (isOffset : offset ≡ or_zero (read_be_u64 b p)) (isSize : size ≡ or_zero (read_be_u64 b (p + 8))) where
@@ -97,20 +97,20 @@ module _ (b : List ℕ) where
       stored = set (set table at offset) (at + 1) size
 
       size_is : size ≡ found.first.size
-      size_is = isSize ∙ or-zero found.size
+      size_is = isSize ∙ or_zero_lem found.size
 
       row : stored ≡ set (set table at found.first.offset) (at + 1) found.first.size
-      row = rw (isOffset ∙ or-zero found.offset, size_is)
+      row = rw (isOffset ∙ or_zero_lem found.offset, size_is)
 
-      pub store-last : size ≡ 0 → (rs : List Reservation) → listed b pos ≡ ok rs → stored ≡ sets table₀ 0 (reservation_numbers rs)
+      pub store_last : size ≡ 0 → (rs : List Reservation) → listed b pos ≡ ok rs → stored ≡ sets table₀ 0 (reservation_numbers rs)
       unfolding reservation_numbers
-      store-last e rs k =
+      store_last e rs k =
           let whole : left.rest ≡ found.first ∷ [] = found.after.is ∙ ap (λ l. found.first ∷ l) (found.after.ends (sym size_is ∙ e)) in
           row ∙ rw add-one (ap (λ l. sets table at (reservation_numbers l)) (sym whole) ∙ left.same rs k)
 
-      pub store-again : size ≢ 0 → StoreLeft b pos table₀ (p + 16) (at + 2) stored
+      pub store_again : size ≢ 0 → StoreLeft b pos table₀ (p + 16) (at + 2) stored
       unfolding reservation_numbers
-      store-again n =
+      store_again n =
           let kept : length stored ≡ length table = simp length-set in
           record {
             rest = found.after.later;

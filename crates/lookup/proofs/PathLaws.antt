@@ -10,9 +10,9 @@ use Rattle.format.specs.Load.{capacity}
 use Rattle.format.specs.Find.{head, rest, same, SLASH, after_slash}
 use Rattle.format.specs.Lookup.{link_good, links_good, name_inside, name_at, across, down, reach, usable, find_from, find}
 use Rattle.format.proofs.Tools.{both, tested, if_yes, if_no}
-use Rattle.format.proofs.Answer.{never, ok_same, then_ok, then-refused, check-ok, check-no}
-use Rattle.format.proofs.Lookup.{across-other, across-here, across-below, across-none, across-bad}
-use Rattle.format.proofs.Reached.{There, follows, led, links-of, links-good, Enough, next-enough, turns-enough}
+use Rattle.format.proofs.Answer.{never, ok_same, then_ok, then_refused, check_ok, check_no}
+use Rattle.format.proofs.Lookup.{across_other, across_here, across_below, across_none, across_bad}
+use Rattle.format.proofs.Reached.{There, follows, led, links_of, links_good_lem, Enough, next_enough, turns_enough}
 use Rattle.lookup.specs.Places.{IsNode, child_from, ChildGives}
 use Rattle.lookup.specs.declared.judge.NodeCells.{NodeCells}
 use Rattle.lookup.specs.declared.path.Child.{Child}
@@ -22,76 +22,76 @@ use Rattle.lookup.proofs.RowLaws.{leads}
 -- ---- one turn of the search for a child
 
 module _ (b : List ℕ) (R : List NodeRow) where
-  child-zero : (r : ℕ) (first : List ℕ) → refused not_usable ≡ child_from b R zero r first
+  child_zero : (r : ℕ) (first : List ℕ) → refused not_usable ≡ child_from b R zero r first
   unfolding child_from
-  child-zero r first = refl
+  child_zero r first = refl
 
-  child-none : (turns : ℕ) (first : List ℕ) → child_from b R (suc turns) NONE first ≡ refused nothing_found
+  child_none : (turns : ℕ) (first : List ℕ) → child_from b R (suc turns) NONE first ≡ refused nothing_found
   unfolding child_from
-  child-none turns first = if_yes _ _ (eq-eqb NONE NONE refl)
+  child_none turns first = if_yes _ _ (eq-eqb NONE NONE refl)
 
   module _ (turns r : ℕ) (first : List ℕ) (some : r ≢ NONE) where
-    child-bad : (links_good R r && name_inside b R r) ≡ false → child_from b R (suc turns) r first ≡ refused not_usable
+    child_bad : (links_good R r && name_inside b R r) ≡ false → child_from b R (suc turns) r first ≡ refused not_usable
     unfolding child_from
-    child-bad e = if_no _ _ (ne_eqb r NONE some) ∙ if_no _ _ e
+    child_bad e = if_no _ _ (ne_eqb r NONE some) ∙ if_no _ _ e
 
     module _ (good : (links_good R r && name_inside b R r) ≡ true) where
-      child-here : same (name_at b R r) first ≡ true → child_from b R (suc turns) r first ≡ ok r
+      child_here : same (name_at b R r) first ≡ true → child_from b R (suc turns) r first ≡ ok r
       unfolding child_from
-      child-here e = if_no _ _ (ne_eqb r NONE some) ∙ if_yes _ _ good ∙ if_yes _ _ e
+      child_here e = if_no _ _ (ne_eqb r NONE some) ∙ if_yes _ _ good ∙ if_yes _ _ e
 
-      child-next : same (name_at b R r) first ≡ false → child_from b R (suc turns) r first ≡ child_from b R turns (at R r).next_sibling first
+      child_next : same (name_at b R r) first ≡ false → child_from b R (suc turns) r first ≡ child_from b R turns (at R r).next_sibling first
       unfolding child_from
-      child-next e = if_no _ _ (ne_eqb r NONE some) ∙ if_yes _ _ good ∙ if_no _ _ e
+      child_next e = if_no _ _ (ne_eqb r NONE some) ∙ if_yes _ _ good ∙ if_no _ _ e
 
   -- ---- `across` is the search for a child, and then the way down from it
 
   abbrev Splits : ℕ → ℕ → Type 0
   Splits turns r = (first later : List ℕ) → across b R turns r first later ≡ (child_from b R turns r first >>= λ c. down b R c later)
 
-  here-down : (turns r : ℕ) → There (length R) r → Enough b R (suc turns) r → (good : (links_good R r && name_inside b R r) ≡ true)
+  here_down : (turns r : ℕ) → There (length R) r → Enough b R (suc turns) r → (good : (links_good R r && name_inside b R r) ≡ true)
       → (first later : List ℕ) → same (name_at b R r) first ≡ true → across b R (suc turns) r first later ≡ down b R r later
   unfolding down
-  here-down turns r there enough good first [] e = across-here b R turns r first there.some good e
-  here-down turns r there enough good first (c ∷ s) e =
-      let link = (links-good b R r good).0 in
+  here_down turns r there enough good first [] e = across_here b R turns r first there.some good e
+  here_down turns r there enough good first (c ∷ s) e =
+      let link = (links_good_lem b R r good).0 in
       let l = (at R r).first_child in
-      across-below b R turns r first there.some good c s e
-      ∙ turns-enough b R turns (length R) l (head (c ∷ s)) (rest (c ∷ s)) (led b R r l link) (next-enough b R turns r l there enough link)
+      across_below b R turns r first there.some good c s e
+      ∙ turns_enough b R turns (length R) l (head (c ∷ s)) (rest (c ∷ s)) (led b R r l link) (next_enough b R turns r l there enough link)
       (omega (arith, there.inside), λ other. ⊎_elim (λ same. absurd (other same)) (λ k. omega (arith, k.above)) (follows b R r l link))
 
-  splits-turn : (turns r : ℕ) → There (length R) r → Enough b R (suc turns) r → (Enough b R turns (at R r).next_sibling → ((at R r).next_sibling ≡ NONE) ⊎ There (length R) (at R r).next_sibling → Splits turns (at R r).next_sibling)
+  splits_turn : (turns r : ℕ) → There (length R) r → Enough b R (suc turns) r → (Enough b R turns (at R r).next_sibling → ((at R r).next_sibling ≡ NONE) ⊎ There (length R) (at R r).next_sibling → Splits turns (at R r).next_sibling)
       → Splits (suc turns) r
-  splits-turn turns r there enough ih first later =
+  splits_turn turns r there enough ih first later =
       tested (links_good R r && name_inside b R r)
       (λ good. tested (same (name_at b R r) first)
-      (λ e. here-down turns r there enough good first later e ∙ sym (then_ok _ _ (child-here turns r first there.some good e) refl))
-      (λ e. let link = (links-good b R r good).1 in
-      across-other b R turns r first there.some good later e
-      ∙ ih (next-enough b R turns r (at R r).next_sibling there enough link) (led b R r (at R r).next_sibling link) first later
-      ∙ ap (λ m. m >>= λ c. down b R c later) (sym (child-next turns r first there.some good e))))
-      (λ bad. across-bad b R turns r first later there.some bad ∙ sym (then-refused _ _ (child-bad turns r first there.some bad)))
+      (λ e. here_down turns r there enough good first later e ∙ sym (then_ok _ _ (child_here turns r first there.some good e) refl))
+      (λ e. let link = (links_good_lem b R r good).1 in
+      across_other b R turns r first there.some good later e
+      ∙ ih (next_enough b R turns r (at R r).next_sibling there enough link) (led b R r (at R r).next_sibling link) first later
+      ∙ ap (λ m. m >>= λ c. down b R c later) (sym (child_next turns r first there.some good e))))
+      (λ bad. across_bad b R turns r first later there.some bad ∙ sym (then_refused _ _ (child_bad turns r first there.some bad)))
 
   splits : (turns r : ℕ) → (r ≡ NONE) ⊎ There (length R) r → Enough b R turns r → Splits turns r
   splits zero r at-r enough first later = absurd (omega (arith, enough.0))
   splits (suc turns) r at-r enough first later =
       ⊎_elim
-      (λ e. rw e (across-none b R turns first later ∙ sym (then-refused _ _ (child-none turns first))))
-      (λ there. splits-turn turns r there enough (λ next at_next. splits turns (at R r).next_sibling at_next next) first later)
+      (λ e. rw e (across_none b R turns first later ∙ sym (then_refused _ _ (child_none turns first))))
+      (λ there. splits_turn turns r there enough (λ next at_next. splits turns (at R r).next_sibling at_next next) first later)
       at-r
 
   -- a child that is found is a row that was judged
-  found-good : (turns r : ℕ) (first : List ℕ) (c : ℕ) → (r ≡ NONE) ⊎ There (length R) r → child_from b R turns r first ≡ ok c → (c < length R) × (links_good R c ≡ true)
-  found-good zero r first c at-r e = absurd (never (child-zero r first ∙ e))
-  found-good (suc turns) r first c at-r e =
+  found_good : (turns r : ℕ) (first : List ℕ) (c : ℕ) → (r ≡ NONE) ⊎ There (length R) r → child_from b R turns r first ≡ ok c → (c < length R) × (links_good R c ≡ true)
+  found_good zero r first c at-r e = absurd (never (child_zero r first ∙ e))
+  found_good (suc turns) r first c at-r e =
       ⊎_elim
-      (λ none. absurd (never (sym (child-none turns first) ∙ rw none at e)))
+      (λ none. absurd (never (sym (child_none turns first) ∙ rw none at e)))
       (λ there. tested (links_good R r && name_inside b R r)
       (λ good. tested (same (name_at b R r) first)
-      (λ here. let is : r ≡ c = ok_same (sym (child-here turns r first there.some good here) ∙ e) in
+      (λ here. let is : r ≡ c = ok_same (sym (child_here turns r first there.some good here) ∙ e) in
       rw (← is) (there.inside, (both (links_good R r) (name_inside b R r) good).0))
-      (λ other. found-good turns (at R r).next_sibling first c (led b R r (at R r).next_sibling (links-good b R r good).1) (sym (child-next turns r first there.some good other) ∙ e)))
-      (λ bad. absurd (never (sym (child-bad turns r first there.some bad) ∙ e))))
+      (λ other. found_good turns (at R r).next_sibling first c (led b R r (at R r).next_sibling (links_good_lem b R r good).1) (sym (child_next turns r first there.some good other) ∙ e)))
+      (λ bad. absurd (never (sym (child_bad turns r first there.some bad) ∙ e))))
       at-r
 
 -- ---- the path: before each part of it the row is judged, and what is left below it gives the whole answer
@@ -103,18 +103,18 @@ pub record Way (b : List ℕ) (R : List NodeRow) (goal : Outcome ℕ) (row link 
   pub same : goal ≡ down b R row path
 
 module _ (b : List ℕ) (R : List NodeRow) where
-  pub reach-bad : (path : List ℕ) (row : ℕ) → links_good R row ≡ false → refused not_usable ≡ reach b R row path
+  pub reach_bad : (path : List ℕ) (row : ℕ) → links_good R row ≡ false → refused not_usable ≡ reach b R row path
   unfolding reach
-  reach-bad path row g = sym (then-refused _ _ (check-no _ g))
+  reach_bad path row g = sym (then_refused _ _ (check_no _ g))
 
-  pub way-start : (path : List ℕ) (row : ℕ) (x : NodeCells) → row < length R → links_good R row ≡ true → IsNode x (at R row) → Way b R (reach b R row path) row x.child path
+  pub way_start : (path : List ℕ) (row : ℕ) (x : NodeCells) → row < length R → links_good R row ≡ true → IsNode x (at R row) → Way b R (reach b R row path) row x.child path
   unfolding reach
-  way-start path row x h g is = record { there = h; good = rw is.child (links-of b R row g).0; own = is.child; same = then_ok _ _ (check-ok _ g) refl }
+  way_start path row x h g is = record { there = h; good = rw is.child (links_of b R row g).0; own = is.child; same = then_ok _ _ (check_ok _ g) refl }
 
-  down-end : (r : ℕ) (path : List ℕ) → length path ≤ 0 → ok r ≡ down b R r path
+  down_end : (r : ℕ) (path : List ℕ) → length path ≤ 0 → ok r ≡ down b R r path
   unfolding down
-  down-end r [] h = refl
-  down-end r (c ∷ path) h = absurd (omega arith)
+  down_end r [] h = refl
+  down_end r (c ∷ path) h = absurd (omega arith)
 
   down_step : (r : ℕ) (path : List ℕ) → 0 < length path → down b R r path ≡ across b R (length R) (at R r).first_child (head path) (rest path)
   unfolding down
@@ -123,28 +123,28 @@ module _ (b : List ℕ) (R : List NodeRow) where
 
   module _ (goal : Outcome ℕ) (row link : ℕ) (path : List ℕ) (w : Way b R goal row link path) where
     pub way_end : length path ≤ 0 → ok row ≡ goal
-    way_end h = down-end row path h ∙ sym w.same
+    way_end h = down_end row path h ∙ sym w.same
 
     module _ (h : 0 < length path) (name later : List ℕ) (e : head path ≡ name) (f : rest path ≡ later) where
-      first-enough : Enough b R (length R) link
-      first-enough = (
+      first_enough : Enough b R (length R) link
+      first_enough = (
         omega (arith, w.there),
         λ other. ⊎_elim (λ same. absurd (other same)) (λ k. omega (arith, k.above)) (follows b R row link w.good),
       )
 
-      splits-here : goal ≡ (child_from b R (length R) link name >>= λ c. down b R c later)
-      splits-here =
+      splits_here : goal ≡ (child_from b R (length R) link name >>= λ c. down b R c later)
+      splits_here =
           w.same
           ∙ down_step row path h
-          ∙ rw (← w.own, e, f) (splits b R (length R) link (led b R row link w.good) first-enough name later)
+          ∙ rw (← w.own, e, f) (splits b R (length R) link (led b R row link w.good) first_enough name later)
 
-      pub way-refused : (r : Refusal) → child_from b R (length R) link name ≡ refused r → refused r ≡ goal
-      way-refused r g = sym (splits-here ∙ then-refused _ _ g)
+      pub way_refused : (r : Refusal) → child_from b R (length R) link name ≡ refused r → refused r ≡ goal
+      way_refused r g = sym (splits_here ∙ then_refused _ _ g)
 
       pub way_down : (c l : ℕ) → child_from b R (length R) link name ≡ ok c → l ≡ (at R c).first_child → Way b R goal c l later
       way_down c l g own =
-          let good = found-good b R (length R) link name c (led b R row link w.good) g in
-          record { there = good.0; good = rw own (links-of b R c good.1).0; own = own; same = splits-here ∙ then_ok _ _ g refl }
+          let good = found_good b R (length R) link name c (led b R row link w.good) g in
+          record { there = good.0; good = rw own (links_of b R c good.1).0; own = own; same = splits_here ∙ then_ok _ _ g refl }
 
 -- ---- the children
 
@@ -165,9 +165,9 @@ pub record Kid (b : List ℕ) (R : List NodeRow) (goal : Outcome ℕ) (first : L
   pub enough : length R ≤ row + turns
   pub same : goal ≡ child_from b R (suc turns) row first
 
-pub kids-begin : (b : List ℕ) (R : List NodeRow) (link : ℕ) (first : List ℕ) (low : ℕ) → low < length R → link_good R low link ≡ true
+pub kids_begin : (b : List ℕ) (R : List NodeRow) (link : ℕ) (first : List ℕ) (low : ℕ) → low < length R → link_good R low link ≡ true
     → Kids b R (child_from b R (length R) link first) first link
-kids-begin b R link first low there good = record {
+kids_begin b R link first low there good = record {
   low = low;
   turns = length R;
   there = there;
@@ -183,44 +183,44 @@ module _ (b : List ℕ) (R : List NodeRow) (goal : Outcome ℕ) (first : List �
       let left : x.turns ≡ suc (x.turns - 1) = omega (arith, x.there, x.enough) in
       x.same ∙ ap (λ k. child_from b R k link first) left
 
-  pub kids-none : link ≡ NONE → goal ≡ refused nothing_found
-  kids-none e = turned ∙ rw e (child-none b R (x.turns - 1) first)
+  pub kids_none : link ≡ NONE → goal ≡ refused nothing_found
+  kids_none e = turned ∙ rw e (child_none b R (x.turns - 1) first)
 
-  pub kids-some : link ≢ NONE → Kid b R goal first link
-  kids-some some =
+  pub kids_some : link ≢ NONE → Kid b R goal first link
+  kids_some some =
       let below = leads R x.low link x.good some in
       record { turns = x.turns - 1; there = below.1; some = some; enough = omega (arith, below, x.enough, x.there); same = turned }
 
 -- a row that was judged, and its numbers
 module _ (b : List ℕ) (R : List NodeRow) (row : ℕ) (node : NodeCells) (is : IsNode node (at R row)) (g : (links_good R row && name_inside b R row) ≡ true) where
-  name-is : name_at b R row ≡ part b node.name node.len
+  name_is : name_at b R row ≡ part b node.name node.len
   unfolding name_at
-  name-is = rw (is.name, is.len)
+  name_is = rw (is.name, is.len)
 
-  pub judged-inside : node.name + node.len ≤ length b
+  pub judged_inside : node.name + node.len ≤ length b
   unfolding name_inside
-  judged-inside = rw (is.name, is.len) (leb-true _ _ (both (links_good R row) (name_inside b R row) g).1)
+  judged_inside = rw (is.name, is.len) (leb-true _ _ (both (links_good R row) (name_inside b R row) g).1)
 
-  pub judged-next : link_good R row node.next ≡ true
-  judged-next = rw is.next (links-good b R row g).1
+  pub judged_next : link_good R row node.next ≡ true
+  judged_next = rw is.next (links_good_lem b R row g).1
 
   module _ (goal : Outcome ℕ) (first : List ℕ) (x : Kid b R goal first row) where
-    pub kid-here : same (part b node.name node.len) first ≡ true → goal ≡ ok row
-    kid-here e = x.same ∙ child-here b R x.turns row first x.some g (rw name-is e)
+    pub kid_here : same (part b node.name node.len) first ≡ true → goal ≡ ok row
+    kid_here e = x.same ∙ child_here b R x.turns row first x.some g (rw name_is e)
 
-    pub kid-next : same (part b node.name node.len) first ≡ false → Kids b R goal first node.next
-    kid-next e = record {
+    pub kid_next : same (part b node.name node.len) first ≡ false → Kids b R goal first node.next
+    kid_next e = record {
       low = row;
       turns = x.turns;
       there = x.there;
       enough = x.enough;
-      good = judged-next;
-      same = x.same ∙ child-next b R x.turns row first x.some g (rw name-is e) ∙ rw is.next;
+      good = judged_next;
+      same = x.same ∙ child_next b R x.turns row first x.some g (rw name_is e) ∙ rw is.next;
     }
 
-pub kid-bad : (b : List ℕ) (R : List NodeRow) (row : ℕ) → (links_good R row && name_inside b R row) ≡ false
+pub kid_bad : (b : List ℕ) (R : List NodeRow) (row : ℕ) → (links_good R row && name_inside b R row) ≡ false
     → (goal : Outcome ℕ) (first : List ℕ) → Kid b R goal first row → goal ≡ refused not_usable
-kid-bad b R row e goal first x = x.same ∙ child-bad b R x.turns row first x.some e
+kid_bad b R row e goal first x = x.same ∙ child_bad b R x.turns row first x.some e
 
 -- ---- what the search gives
 
@@ -233,9 +233,9 @@ module _ (b : List ℕ) (R : List NodeRow) (link : ℕ) (first : List ℕ) {r : 
   unfolding ChildGives
   gives_nothing e = rw e at g
 
-  pub gives-unusable : r ≡ child.Unusable → child_from b R (length R) link first ≡ refused not_usable
+  pub gives_unusable : r ≡ child.Unusable → child_from b R (length R) link first ≡ refused not_usable
   unfolding ChildGives
-  gives-unusable e = rw e at g
+  gives_unusable e = rw e at g
 
 -- ---- the public calls
 
@@ -244,9 +244,9 @@ module _ (t : List ℕ) (n row : ℕ) where
   unfolding usable capacity node_width
   too_many h = rw (lt-leb n (length t / 7) h)
 
-  pub if-below : n ≤ length t / 7 → usable t n row ≡ ltb row n
+  pub if_below : n ≤ length t / 7 → usable t n row ≡ ltb row n
   unfolding usable capacity node_width
-  if-below h = rw (le-leb n (length t / 7) h)
+  if_below h = rw (le-leb n (length t / 7) h)
 
   -- the row and its table's room
   pub used : usable t n row ≡ true → (row < n) × (node_width * n ≤ length t)
@@ -256,45 +256,45 @@ module _ (t : List ℕ) (n row : ℕ) where
       (ltb-true _ _ (both (leb n (length t / 7)) (ltb row n) u).1, omega arith)
 
 module _ (b t : List ℕ) (n row : ℕ) (path : List ℕ) where
-  pub from-unusable : usable t n row ≡ false → refused not_usable ≡ find_from b t n row path
+  pub from_unusable : usable t n row ≡ false → refused not_usable ≡ find_from b t n row path
   unfolding find_from
-  from-unusable u = sym (then-refused _ _ (check-no _ u))
+  from_unusable u = sym (then_refused _ _ (check_no _ u))
 
-  pub from-reach : usable t n row ≡ true → reach b (nodes_in n t) row path ≡ find_from b t n row path
+  pub from_reach : usable t n row ≡ true → reach b (nodes_in n t) row path ≡ find_from b t n row path
   unfolding find_from
-  from-reach u = sym (then_ok _ _ (check-ok _ u) refl)
+  from_reach u = sym (then_ok _ _ (check_ok _ u) refl)
 
-slash-none : (path : List ℕ) → length path ≡ 0 → after_slash path ≡ refused nothing_found
+slash_none : (path : List ℕ) → length path ≡ 0 → after_slash path ≡ refused nothing_found
 unfolding after_slash
-slash-none [] e = refl
-slash-none (c ∷ p) e = absurd (omega arith)
+slash_none [] e = refl
+slash_none (c ∷ p) e = absurd (omega arith)
 
-slash-other : (path : List ℕ) → 0 < length path → get_or path 0 0 ≢ 0x2f → after_slash path ≡ refused nothing_found
+slash_other : (path : List ℕ) → 0 < length path → get_or path 0 0 ≢ 0x2f → after_slash path ≡ refused nothing_found
 unfolding after_slash SLASH
-slash-other [] l d = absurd (omega arith)
-slash-other (c ∷ p) l d = if_no _ _ (ne_eqb c 0x2f d)
+slash_other [] l d = absurd (omega arith)
+slash_other (c ∷ p) l d = if_no _ _ (ne_eqb c 0x2f d)
 
-slash-first : (path : List ℕ) → 0 < length path → get_or path 0 0 ≡ 0x2f → after_slash path ≡ ok (drop 1 path)
+slash_first : (path : List ℕ) → 0 < length path → get_or path 0 0 ≡ 0x2f → after_slash path ≡ ok (drop 1 path)
 unfolding after_slash SLASH
-slash-first [] l d = absurd (omega arith)
-slash-first (c ∷ p) l d = if_yes _ _ (eq-eqb c 0x2f d)
+slash_first [] l d = absurd (omega arith)
+slash_first (c ∷ p) l d = if_yes _ _ (eq-eqb c 0x2f d)
 
 module _ (b t : List ℕ) (n : ℕ) (path : List ℕ) where
-  pub tree-unusable : usable t n 0 ≡ false → refused not_usable ≡ find b t n path
+  pub tree_unusable : usable t n 0 ≡ false → refused not_usable ≡ find b t n path
   unfolding find
-  tree-unusable u = sym (then-refused _ _ (check-no _ u))
+  tree_unusable u = sym (then_refused _ _ (check_no _ u))
 
   module _ (u : usable t n 0 ≡ true) where
-    pub tree-empty : length path ≡ 0 → refused nothing_found ≡ find b t n path
+    pub tree_empty : length path ≡ 0 → refused nothing_found ≡ find b t n path
     unfolding find
-    tree-empty e = sym (then_ok _ _ (check-ok _ u) (then-refused _ _ (slash-none path e)))
+    tree_empty e = sym (then_ok _ _ (check_ok _ u) (then_refused _ _ (slash_none path e)))
 
     module _ (l : 0 < length path) where
-      pub tree-other : get_or path 0 0 ≢ 0x2f → refused nothing_found ≡ find b t n path
+      pub tree_other : get_or path 0 0 ≢ 0x2f → refused nothing_found ≡ find b t n path
       unfolding find
-      tree-other d = sym (then_ok _ _ (check-ok _ u) (then-refused _ _ (slash-other path l d)))
+      tree_other d = sym (then_ok _ _ (check_ok _ u) (then_refused _ _ (slash_other path l d)))
 
       -- after the slash, a path from row 0
-      pub tree-reach : get_or path 0 0 ≡ 0x2f → reach b (nodes_in n t) 0 (part path 1 (length path - 1)) ≡ find b t n path
+      pub tree_reach : get_or path 0 0 ≡ 0x2f → reach b (nodes_in n t) 0 (part path 1 (length path - 1)) ≡ find b t n path
       unfolding find part
-      tree-reach d = rw (part_to_end path 1) (sym (then_ok _ _ (check-ok _ u) (then_ok _ _ (slash-first path l d) refl)))
+      tree_reach d = rw (part_to_end path 1) (sym (then_ok _ _ (check_ok _ u) (then_ok _ _ (slash_first path l d) refl)))

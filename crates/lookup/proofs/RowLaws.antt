@@ -17,14 +17,14 @@ use Rattle.lookup.specs.declared.judge.PropertyCells.{PropertyCells}
 moved : (t : List ℕ) (w i j : ℕ) → w + i ≡ j → get_or (drop w t) i 0 ≡ get_or t j 0
 moved t w i j e = get_or-drop w t i 0 ∙ ap (λ k. get_or t k 0) e
 
-pub nodes-length : (n : ℕ) (t : List ℕ) → length (nodes_in n t) ≡ n
+pub nodes_length : (n : ℕ) (t : List ℕ) → length (nodes_in n t) ≡ n
 unfolding nodes_in
-nodes-length zero t = refl
-nodes-length (suc n) t = ap suc (nodes-length n (drop node_width t))
+nodes_length zero t = refl
+nodes_length (suc n) t = ap suc (nodes_length n (drop node_width t))
 
-node-shift : (t : List ℕ) (r : ℕ) → node_in (drop node_width t) r ≡ node_in t (suc r)
+node_shift : (t : List ℕ) (r : ℕ) → node_in (drop node_width t) r ≡ node_in t (suc r)
 unfolding node_in node_width
-node-shift t r =
+node_shift t r =
     let e₀ = moved t 7 (7 * r) (7 * suc r) (omega arith) in
     let e₁ = moved t 7 (7 * r + 1) (7 * suc r + 1) (omega arith) in
     let e₂ = moved t 7 (7 * r + 2) (7 * suc r + 2) (omega arith) in
@@ -34,31 +34,31 @@ node-shift t r =
     let e₆ = moved t 7 (7 * r + 6) (7 * suc r + 6) (omega arith) in
     cc
 
-pub node-is : (n : ℕ) (t : List ℕ) (r : ℕ) → r < n → at (nodes_in n t) r ≡ node_in t r
+pub node_is : (n : ℕ) (t : List ℕ) (r : ℕ) → r < n → at (nodes_in n t) r ≡ node_in t r
 unfolding nodes_in at node_in node_width
-node-is zero t r h = absurd (omega arith)
-node-is (suc n) t zero h = refl
-node-is (suc n) t (suc r) h = node-is n (drop 7 t) r (omega arith) ∙ node-shift t r
+node_is zero t r h = absurd (omega arith)
+node_is (suc n) t zero h = refl
+node_is (suc n) t (suc r) h = node_is n (drop 7 t) r (omega arith) ∙ node_shift t r
 
-pub properties-length : (n : ℕ) (t : List ℕ) → length (properties_in n t) ≡ n
+pub properties_length : (n : ℕ) (t : List ℕ) → length (properties_in n t) ≡ n
 unfolding properties_in
-properties-length zero t = refl
-properties-length (suc n) t = ap suc (properties-length n (drop property_width t))
+properties_length zero t = refl
+properties_length (suc n) t = ap suc (properties_length n (drop property_width t))
 
-property-shift : (t : List ℕ) (k : ℕ) → property_in (drop property_width t) k ≡ property_in t (suc k)
+property_shift : (t : List ℕ) (k : ℕ) → property_in (drop property_width t) k ≡ property_in t (suc k)
 unfolding property_in property_width
-property-shift t k =
+property_shift t k =
     let e₀ = moved t 4 (4 * k) (4 * suc k) (omega arith) in
     let e₁ = moved t 4 (4 * k + 1) (4 * suc k + 1) (omega arith) in
     let e₂ = moved t 4 (4 * k + 2) (4 * suc k + 2) (omega arith) in
     let e₃ = moved t 4 (4 * k + 3) (4 * suc k + 3) (omega arith) in
     cc
 
-pub property-is : (n : ℕ) (t : List ℕ) (k : ℕ) → k < n → property_at (properties_in n t) k ≡ property_in t k
+pub property_is : (n : ℕ) (t : List ℕ) (k : ℕ) → k < n → property_at (properties_in n t) k ≡ property_in t k
 unfolding properties_in property_at property_in property_width
-property-is zero t k h = absurd (omega arith)
-property-is (suc n) t zero h = refl
-property-is (suc n) t (suc k) h = property-is n (drop 4 t) k (omega arith) ∙ property-shift t k
+property_is zero t k h = absurd (omega arith)
+property_is (suc n) t zero h = refl
+property_is (suc n) t (suc k) h = property_is n (drop 4 t) k (omega arith) ∙ property_shift t k
 
 -- a number of the table from p on, as it is lent
 abbrev from : List ℕ → ℕ → List ℕ
@@ -88,11 +88,11 @@ cells t r h = record {
 }
 
 -- the numbers that were read are the row's
-pub node-read : (n : ℕ) (t : List ℕ) (r : ℕ) (x : NodeCells) → r < n → IsNode x (node_in t r) → IsNode x (at (nodes_in n t) r)
-node-read n t r x h is = rw (node-is n t r h) is
+pub node_read : (n : ℕ) (t : List ℕ) (r : ℕ) (x : NodeCells) → r < n → IsNode x (node_in t r) → IsNode x (at (nodes_in n t) r)
+node_read n t r x h is = rw (node_is n t r h) is
 
-pub property-read : (n : ℕ) (t : List ℕ) (k : ℕ) (x : PropertyCells) → k < n → IsProperty x (property_in t k) → IsProperty x (property_at (properties_in n t) k)
-property-read n t k x h is = rw (property-is n t k h) is
+pub property_read : (n : ℕ) (t : List ℕ) (k : ℕ) (x : PropertyCells) → k < n → IsProperty x (property_in t k) → IsProperty x (property_at (properties_in n t) k)
+property_read n t k x h is = rw (property_is n t k h) is
 
 -- ---- links
 
@@ -102,39 +102,39 @@ module _ (R : List NodeRow) where
   leads r l e n = ⊎_elim (λ same. absurd (n same)) (λ k. (k.above, k.inside)) (follows [] R r l e)
 
   -- a link of a row below none that leads to no later row is bad
-  pub back-bad : (r l : ℕ) → r < NONE → l ≤ r → link_good R r l ≡ false
+  pub back_bad : (r l : ℕ) → r < NONE → l ≤ r → link_good R r l ≡ false
   unfolding link_good
-  back-bad r l k h = simp (ne_eqb l NONE (λ e. absurd (omega (arith, k, h, e))), le-ltb r l h)
+  back_bad r l k h = simp (ne_eqb l NONE (λ e. absurd (omega (arith, k, h, e))), le-ltb r l h)
 
   -- one to a later row is good if, one more and modulo 2^32, it is within the count: none gives 0
-  pub on-good : (r l n : ℕ) → l < 2 ^ 32 → r < l → length R ≡ n → link_good R r l ≡ leb ((l + 1) % 2 ^ 32) n
+  pub on_good : (r l n : ℕ) → l < 2 ^ 32 → r < l → length R ≡ n → link_good R r l ≡ leb ((l + 1) % 2 ^ 32) n
   unfolding link_good NONE
-  on-good r l n h o e =
+  on_good r l n h o e =
       tested (eqb l NONE)
       (λ t. let none : (l + 1) % 2 ^ 32 ≡ 0 = omega (arith, eqb-true l NONE t) in simp (t, none, le-leb 0 n (omega arith)))
       (λ t. let some : (l + 1) % 2 ^ 32 ≡ suc l = omega (arith, eqb-false l NONE t) in simp (t, some, lt-ltb r l o, e))
 
   -- both links, of the numbers read
-  pub next-bad : (r l : ℕ) → l ≡ (at R r).next_sibling → link_good R r l ≡ false → links_good R r ≡ false
+  pub next_bad : (r l : ℕ) → l ≡ (at R r).next_sibling → link_good R r l ≡ false → links_good R r ≡ false
   unfolding links_good
-  next-bad r l is e = tested (link_good R r (at R r).first_child) (λ t. simp (t, ← is, e)) (λ t. simp t)
+  next_bad r l is e = tested (link_good R r (at R r).first_child) (λ t. simp (t, ← is, e)) (λ t. simp t)
 
-  pub child-bad : (r l : ℕ) → l ≡ (at R r).first_child → link_good R r l ≡ false → links_good R r ≡ false
+  pub child_bad : (r l : ℕ) → l ≡ (at R r).first_child → link_good R r l ≡ false → links_good R r ≡ false
   unfolding links_good
-  child-bad r l is e = simp (← is, e)
+  child_bad r l is e = simp (← is, e)
 
-  pub child-good : (r l m : ℕ) → l ≡ (at R r).first_child → m ≡ (at R r).next_sibling → link_good R r l ≡ true → links_good R r ≡ link_good R r m
+  pub child_good : (r l m : ℕ) → l ≡ (at R r).first_child → m ≡ (at R r).next_sibling → link_good R r l ≡ true → links_good R r ≡ link_good R r m
   unfolding links_good
-  child-good r l m is js e = simp (← is, ← js, e)
+  child_good r l m is js e = simp (← is, ← js, e)
 
 -- how many rows are ahead of a link
 unfoldable pub ahead : ℕ → ℕ → ℕ
 ahead n link = if eqb link NONE then 0 else (n - link)
 
 -- fewer from link to link
-pub fewer-ahead : (R : List NodeRow) (r l : ℕ) → r ≢ NONE → r < length R → link_good R r l ≡ true → ahead (length R) l < ahead (length R) r
+pub fewer_ahead : (R : List NodeRow) (r l : ℕ) → r ≢ NONE → r < length R → link_good R r l ≡ true → ahead (length R) l < ahead (length R) r
 unfolding ahead
-fewer-ahead R r l some h e =
+fewer_ahead R r l some h e =
     let here : (if eqb r NONE then 0 else (length R - r)) ≡ length R - r = if_no _ _ (ne_eqb r NONE some) in
     tested (eqb l NONE)
     (λ t. let there : (if eqb l NONE then 0 else (length R - l)) ≡ 0 = if_yes _ _ t in omega arith)

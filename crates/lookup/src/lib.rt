@@ -1,6 +1,7 @@
 // Paths and properties, looked up in the rows that a load wrote or in any others: whatever the tables hold, a call gets an answer,
 // and 15 (`Unusable`) where a count, the starting row or a row that is reached cannot be used. Nothing is written.
 #![tactic(auto)]
+
 mod judge;
 mod path;
 mod property;

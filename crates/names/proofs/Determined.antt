@@ -7,8 +7,8 @@ use mathlib.Core.List.{List}
 use lib.ListN.{length}
 use Rattle.format.specs.Find.{head, same}
 
-pub same-determined : (s t : List ℕ) (x y : Bool) → x ≡ same s t → y ≡ same s t → x ≡ y
-same-determined s t x y e f = e ∙ sym f
+pub same_determined : (s t : List ℕ) (x y : Bool) → x ≡ same s t → y ≡ same s t → x ≡ y
+same_determined s t x y e f = e ∙ sym f
 
-pub name-end-determined : (path : List ℕ) (x y : ℕ) → x ≡ length (head path) → y ≡ length (head path) → x ≡ y
-name-end-determined path x y e f = e ∙ sym f
+pub name_end_determined : (path : List ℕ) (x y : ℕ) → x ≡ length (head path) → y ≡ length (head path) → x ≡ y
+name_end_determined path x y e f = e ∙ sym f

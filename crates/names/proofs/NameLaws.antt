@@ -14,7 +14,7 @@ use borrow.Author.Tests.{eqb-true, eqb-false, eq-eqb, ne_eqb}
 use Rattle.format.specs.Bytes.{AreBytes}
 use Rattle.format.specs.Find.{SLASH, head, same}
 use Rattle.format.proofs.Tools.{split, tested, if_yes, if_no}
-use Rattle.format.proofs.Names.{same-is}
+use Rattle.format.proofs.Names.{same_is}
 use Rattle.names.specs.Scan.{Scan, lowest}
 
 -- ---- the same bytes
@@ -25,11 +25,11 @@ same_self [] = refl
 same_self (x ∷ xs) = rw (eq-eqb x x refl, same_self xs)
 
 unequal : (xs ys : List ℕ) → (xs ≡ ys → ⊥) → same xs ys ≡ false
-unequal xs ys n = tested (same xs ys) (λ e. absurd (n (same-is xs ys e))) (λ e. e)
+unequal xs ys n = tested (same xs ys) (λ e. absurd (n (same_is xs ys e))) (λ e. e)
 
 module _ (s t : List ℕ) where
-  pub length-differs : length s ≢ length t → false ≡ same s t
-  length-differs d = sym (unequal s t (λ e. d (ap length e)))
+  pub length_differs : length s ≢ length t → false ≡ same s t
+  length_differs d = sym (unequal s t (λ e. d (ap length e)))
 
   -- every byte from i on is the same
   abbrev pub Alike : ℕ → Type 0
@@ -40,12 +40,12 @@ module _ (s t : List ℕ) where
       let e : s ≡ t = ext_get_or 0 s t size (λ i h. all i (omega arith) h) in
       sym (rw e (same_self t))
 
-  pub byte-differs : (i : ℕ) → get_or s i 0 ≢ get_or t i 0 → false ≡ same s t
-  byte-differs i d = sym (unequal s t (λ e. d (ap (λ l. get_or l i 0) e)))
+  pub byte_differs : (i : ℕ) → get_or s i 0 ≢ get_or t i 0 → false ≡ same s t
+  byte_differs i d = sym (unequal s t (λ e. d (ap (λ l. get_or l i 0) e)))
 
   -- one byte further to the front
-  pub alike-more : (i : ℕ) → Alike i → get_or s (i - 1) 0 ≡ get_or t (i - 1) 0 → Alike (i - 1)
-  alike-more i all e k h l = split i k (λ g. all k g l) (λ g.
+  pub alike_more : (i : ℕ) → Alike i → get_or s (i - 1) 0 ≡ get_or t (i - 1) 0 → Alike (i - 1)
+  alike_more i all e k h l = split i k (λ g. all k g l) (λ g.
       let same : i - 1 ≡ k = omega arith in
       rw same at e)
 
@@ -62,40 +62,40 @@ module _ (s t : List ℕ) where
   unfolding AreBytes lowest
   fours p bs bt e = omega (arith, bs p, bs (p + 1), bs (p + 2), bs (p + 3), bt p, bt (p + 1), bt (p + 2), bt (p + 3))
 
-  four-alike : (p : ℕ) → Fours p → (j : ℕ) → j < 4 → get_or s (p + j) 0 ≡ get_or t (p + j) 0
-  four-alike p each zero h = rw (add-zero p) each.first
-  four-alike p each (suc zero) h = each.second
-  four-alike p each (suc (suc zero)) h = each.third
-  four-alike p each (suc (suc (suc zero))) h = each.fourth
-  four-alike p each (suc (suc (suc (suc j)))) h = absurd (omega arith)
+  four_alike : (p : ℕ) → Fours p → (j : ℕ) → j < 4 → get_or s (p + j) 0 ≡ get_or t (p + j) 0
+  four_alike p each zero h = rw (add-zero p) each.first
+  four_alike p each (suc zero) h = each.second
+  four_alike p each (suc (suc zero)) h = each.third
+  four_alike p each (suc (suc (suc zero))) h = each.fourth
+  four_alike p each (suc (suc (suc (suc j)))) h = absurd (omega arith)
 
-  pub word-alike : AreBytes s → AreBytes t → (i : ℕ) → lowest s i ≡ lowest t i → Alike (i + 4) → Alike i
-  word-alike bs bt i e all k lo l = split (i + 4) k (λ g. all k g l) (λ g.
+  pub word_alike : AreBytes s → AreBytes t → (i : ℕ) → lowest s i ≡ lowest t i → Alike (i + 4) → Alike i
+  word_alike bs bt i e all k lo l = split (i + 4) k (λ g. all k g l) (λ g.
       let x : i + (k - i) ≡ k = omega arith in
-      rw x at (four-alike i (fours i bs bt e) (k - i) (omega arith)))
+      rw x at (four_alike i (fours i bs bt e) (k - i) (omega arith)))
 
-  pub word-differs : (i : ℕ) → lowest s i ≢ lowest t i → false ≡ same s t
-  word-differs i d = sym (unequal s t (λ e. d (ap (λ l. lowest l i) e)))
+  pub word_differs : (i : ℕ) → lowest s i ≢ lowest t i → false ≡ same s t
+  word_differs i d = sym (unequal s t (λ e. d (ap (λ l. lowest l i) e)))
 
   -- all but the first word is the same
   pub first_word : AreBytes s → AreBytes t → length s ≡ length t → Alike 4 → eqb (lowest s 0) (lowest t 0) ≡ same s t
   first_word bs bt size all =
       tested (eqb (lowest s 0) (lowest t 0))
-      (λ e. e ∙ alike_same size (word-alike bs bt 0 (eqb-true _ _ e) all))
-      (λ e. e ∙ word-differs 0 (eqb-false _ _ e))
+      (λ e. e ∙ alike_same size (word_alike bs bt 0 (eqb-true _ _ e) all))
+      (λ e. e ∙ word_differs 0 (eqb-false _ _ e))
 
 -- ---- the first name of a path
 
-pub scan-start : (p : List ℕ) → Scan p 0
-scan-start p = record { inside = omega arith; first = omega arith }
+pub scan_start : (p : List ℕ) → Scan p 0
+scan_start p = record { inside = omega arith; first = omega arith }
 
 -- what follows i begins with the byte there
-first-goes-on : (p : List ℕ) (i : ℕ) → i < length p → get_or p i 0 ≢ 0x2f → head (drop i p) ≡ get_or p i 0 ∷ head (drop (i + 1) p)
+first_goes_on : (p : List ℕ) (i : ℕ) → i < length p → get_or p i 0 ≢ 0x2f → head (drop i p) ≡ get_or p i 0 ∷ head (drop (i + 1) p)
 unfolding head SLASH
-first-goes-on p i h d = rw (add-one i, drop-cons p i 0 h) (if_no _ _ (ne_eqb (get_or p i 0) 0x2f d))
+first_goes_on p i h d = rw (add-one i, drop-cons p i 0 h) (if_no _ _ (ne_eqb (get_or p i 0) 0x2f d))
 
-pub scan-more : (p : List ℕ) (i : ℕ) → Scan p i → i < length p → get_or p i 0 ≢ 0x2f → Scan p (i + 1)
-scan-more p i x h d = record { inside = omega arith; first = omega (arith, x.first, ap length (first-goes-on p i h d)) }
+pub scan_more : (p : List ℕ) (i : ℕ) → Scan p i → i < length p → get_or p i 0 ≢ 0x2f → Scan p (i + 1)
+scan_more p i x h d = record { inside = omega arith; first = omega (arith, x.first, ap length (first_goes_on p i h d)) }
 
 -- two tests that are both made, and both fail
 pub neither : (a b : Bool) → (a || b) ≡ false → (a ≡ false) × (b ≡ false)
@@ -103,25 +103,25 @@ neither true b e = absurd (true≢false e)
 neither false b e = (refl, e)
 
 -- four bytes
-pub scan-word : (p : List ℕ) (i : ℕ) → i + 4 ≤ length p → get_or p i 0 ≢ 0x2f → get_or p (i + 1) 0 ≢ 0x2f → get_or p (i + 2) 0 ≢ 0x2f → get_or p (i + 3) 0 ≢ 0x2f
+pub scan_word : (p : List ℕ) (i : ℕ) → i + 4 ≤ length p → get_or p i 0 ≢ 0x2f → get_or p (i + 1) 0 ≢ 0x2f → get_or p (i + 2) 0 ≢ 0x2f → get_or p (i + 3) 0 ≢ 0x2f
     → Scan p i → Scan p (i + 4)
-scan-word p i h a b c d x =
+scan_word p i h a b c d x =
     let e₂ : i + 2 ≡ i + 1 + 1 = omega arith in
     let e₃ : i + 3 ≡ i + 2 + 1 = omega arith in
     let e₄ : i + 4 ≡ i + 3 + 1 = omega arith in
-    let one : Scan p (i + 1) = scan-more p i x (omega arith) a in
-    let two : Scan p (i + 2) = rw e₂ (scan-more p (i + 1) one (omega arith) b) in
-    let three : Scan p (i + 3) = rw e₃ (scan-more p (i + 2) two (omega arith) c) in
-    rw e₄ (scan-more p (i + 3) three (omega arith) d)
+    let one : Scan p (i + 1) = scan_more p i x (omega arith) a in
+    let two : Scan p (i + 2) = rw e₂ (scan_more p (i + 1) one (omega arith) b) in
+    let three : Scan p (i + 3) = rw e₃ (scan_more p (i + 2) two (omega arith) c) in
+    rw e₄ (scan_more p (i + 3) three (omega arith) d)
 
-pub scan-slash : (p : List ℕ) (i : ℕ) → Scan p i → i < length p → get_or p i 0 ≡ 0x2f → i ≡ length (head p)
+pub scan_slash : (p : List ℕ) (i : ℕ) → Scan p i → i < length p → get_or p i 0 ≡ 0x2f → i ≡ length (head p)
 unfolding head SLASH
-scan-slash p i x h d =
+scan_slash p i x h d =
     let none : head (drop i p) ≡ [] = rw (drop-cons p i 0 h) (if_yes _ _ (eq-eqb (get_or p i 0) 0x2f d)) in
     omega (arith, x.first, ap length none)
 
-pub scan-end : (p : List ℕ) (i : ℕ) → Scan p i → length p ≤ i → i ≡ length (head p)
+pub scan_end : (p : List ℕ) (i : ℕ) → Scan p i → length p ≤ i → i ≡ length (head p)
 unfolding head
-scan-end p i x h =
+scan_end p i x h =
     let none : head (drop i p) ≡ [] = rw (drop_of_length-le p h) in
     omega (arith, x.first, ap length none)

@@ -1,5 +1,6 @@
 // Names: whether two are the same, and where the first name of a path ends.
 #![tactic(auto)]
+
 ghost use Rattle.std.specs.Prelude.{◌≡◌, false, ◌+◌, ◌≤◌, ◌<◌, length};
 ghost use Rattle.format.specs.Find.{head, same};
 ghost use Rattle.names.specs.Scan.{Scan, lowest};

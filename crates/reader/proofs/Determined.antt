@@ -20,85 +20,85 @@ use Rattle.reader.specs.Numbers.{word_numbers, long_numbers, place_numbers, span
 
 -- ---- an answer's numbers determine it
 
-pub word-by-numbers : (r s : Word) → word_numbers r ≡ word_numbers s → r ≡ s
+pub word_by_numbers : (r s : Word) → word_numbers r ≡ word_numbers s → r ≡ s
 unfolding word_numbers
-word-by-numbers (word.Got m) (word.Got n) e = cc
-word-by-numbers (word.Got m) word.Short e = cc
-word-by-numbers word.Short (word.Got n) e = cc
-word-by-numbers word.Short word.Short e = refl
+word_by_numbers (word.Got m) (word.Got n) e = cc
+word_by_numbers (word.Got m) word.Short e = cc
+word_by_numbers word.Short (word.Got n) e = cc
+word_by_numbers word.Short word.Short e = refl
 
-pub long-by-numbers : (r s : Long) → long_numbers r ≡ long_numbers s → r ≡ s
+pub long_by_numbers : (r s : Long) → long_numbers r ≡ long_numbers s → r ≡ s
 unfolding long_numbers
-long-by-numbers (long.Got m) (long.Got n) e = cc
-long-by-numbers (long.Got m) long.Short e = cc
-long-by-numbers long.Short (long.Got n) e = cc
-long-by-numbers long.Short long.Short e = refl
+long_by_numbers (long.Got m) (long.Got n) e = cc
+long_by_numbers (long.Got m) long.Short e = cc
+long_by_numbers long.Short (long.Got n) e = cc
+long_by_numbers long.Short long.Short e = refl
 
-pub place-by-numbers : (r s : Place) → place_numbers r ≡ place_numbers s → r ≡ s
+pub place_by_numbers : (r s : Place) → place_numbers r ≡ place_numbers s → r ≡ s
 unfolding place_numbers
-place-by-numbers (at.At p) (at.At q) e = cc
-place-by-numbers (at.At p) at.Short e = cc
-place-by-numbers at.Short (at.At q) e = cc
-place-by-numbers at.Short at.Short e = refl
+place_by_numbers (at.At p) (at.At q) e = cc
+place_by_numbers (at.At p) at.Short e = cc
+place_by_numbers at.Short (at.At q) e = cc
+place_by_numbers at.Short at.Short e = refl
 
-pub span-by-numbers : (r s : Span) → span_numbers r ≡ span_numbers s → r ≡ s
+pub span_by_numbers : (r s : Span) → span_numbers r ≡ span_numbers s → r ≡ s
 unfolding span_numbers
-span-by-numbers (span.Part a m) (span.Part b n) e = cc
-span-by-numbers (span.Part a m) span.Short e = cc
-span-by-numbers span.Short (span.Part b n) e = cc
-span-by-numbers span.Short span.Short e = refl
+span_by_numbers (span.Part a m) (span.Part b n) e = cc
+span_by_numbers (span.Part a m) span.Short e = cc
+span_by_numbers span.Short (span.Part b n) e = cc
+span_by_numbers span.Short span.Short e = refl
 
-pub token-by-numbers : (r s : Read) → token_numbers r ≡ token_numbers s → r ≡ s
+pub token_by_numbers : (r s : Read) → token_numbers r ≡ token_numbers s → r ≡ s
 unfolding token_numbers
-token-by-numbers (token.Got t) (token.Got u) e =
+token_by_numbers (token.Got t) (token.Got u) e =
     let same : t.number ≡ u.number = cc in
     ap (λ (n : ℕ). token.Got (record { number = n })) same
-token-by-numbers (token.Got t) token.Short e = cc
-token-by-numbers token.Short (token.Got u) e = cc
-token-by-numbers token.Short token.Short e = refl
+token_by_numbers (token.Got t) token.Short e = cc
+token_by_numbers token.Short (token.Got u) e = cc
+token_by_numbers token.Short token.Short e = refl
 
 -- ---- the promises
 
-pub align-determined : (val to : ℕ) (r s : Place)
+pub align_determined : (val to : ℕ) (r s : Place)
     → place_numbers r ≡ numbers itself (aligned val to) → place_numbers s ≡ numbers itself (aligned val to) → r ≡ s
-align-determined val to r s h k = place-by-numbers r s (h ∙ sym k)
+align_determined val to r s h k = place_by_numbers r s (h ∙ sym k)
 
-pub aligned-determined : (val to : ℕ) (r s : ℕ) → r ≡ or_else val (aligned val to) → s ≡ or_else val (aligned val to) → r ≡ s
-aligned-determined val to r s h k = h ∙ sym k
+pub aligned_determined : (val to : ℕ) (r s : ℕ) → r ≡ or_else val (aligned val to) → s ≡ or_else val (aligned val to) → r ≡ s
+aligned_determined val to r s h k = h ∙ sym k
 
 module _ (buf : List ℕ) (start end : ℕ) where
-  pub subslice-determined : (r s : Span)
+  pub subslice_determined : (r s : Span)
       → span_numbers r ≡ numbers place (span_at start (subslice buf start end)) → span_numbers s ≡ numbers place (span_at start (subslice buf start end)) → r ≡ s
-  subslice-determined r s h k = span-by-numbers r s (h ∙ sym k)
+  subslice_determined r s h k = span_by_numbers r s (h ∙ sym k)
 
-  pub subslice-part-determined : (r s : List ℕ) → r ≡ or_empty (subslice buf start end) → s ≡ or_empty (subslice buf start end) → r ≡ s
-  subslice-part-determined r s h k = h ∙ sym k
+  pub subslice_part_determined : (r s : List ℕ) → r ≡ or_empty (subslice buf start end) → s ≡ or_empty (subslice buf start end) → r ≡ s
+  subslice_part_determined r s h k = h ∙ sym k
 
 module _ (buf : List ℕ) (pos : ℕ) where
-  pub read-be-u32-determined : (r s : Word)
+  pub read_be_u32_determined : (r s : Word)
       → word_numbers r ≡ numbers itself (read_be_u32 buf pos) → word_numbers s ≡ numbers itself (read_be_u32 buf pos) → r ≡ s
-  read-be-u32-determined r s h k = word-by-numbers r s (h ∙ sym k)
+  read_be_u32_determined r s h k = word_by_numbers r s (h ∙ sym k)
 
-  pub read-be-u64-determined : (r s : Long)
+  pub read_be_u64_determined : (r s : Long)
       → long_numbers r ≡ numbers itself (read_be_u64 buf pos) → long_numbers s ≡ numbers itself (read_be_u64 buf pos) → r ≡ s
-  read-be-u64-determined r s h k = long-by-numbers r s (h ∙ sym k)
+  read_be_u64_determined r s h k = long_by_numbers r s (h ∙ sym k)
 
-  pub read-bstring0-determined : (r s : Span)
+  pub read_bstring0_determined : (r s : Span)
       → span_numbers r ≡ numbers place (span_at pos (read_bstring0 buf pos)) → span_numbers s ≡ numbers place (span_at pos (read_bstring0 buf pos)) → r ≡ s
-  read-bstring0-determined r s h k = span-by-numbers r s (h ∙ sym k)
+  read_bstring0_determined r s h k = span_by_numbers r s (h ∙ sym k)
 
-  pub bstring0-part-determined : (r s : List ℕ) → r ≡ or_empty (read_bstring0 buf pos) → s ≡ or_empty (read_bstring0 buf pos) → r ≡ s
-  bstring0-part-determined r s h k = h ∙ sym k
+  pub bstring0_part_determined : (r s : List ℕ) → r ≡ or_empty (read_bstring0 buf pos) → s ≡ or_empty (read_bstring0 buf pos) → r ≡ s
+  bstring0_part_determined r s h k = h ∙ sym k
 
-  pub token-read-determined : (r s : Read)
+  pub token_read_determined : (r s : Read)
       → token_numbers r ≡ numbers itself (read_be_u32 buf pos) → token_numbers s ≡ numbers itself (read_be_u32 buf pos) → r ≡ s
-  token-read-determined r s h k = token-by-numbers r s (h ∙ sym k)
+  token_read_determined r s h k = token_by_numbers r s (h ∙ sym k)
 
-  pub word-at-determined : (r s : ℕ) → r ≡ or_zero (read_be_u32 buf pos) → s ≡ or_zero (read_be_u32 buf pos) → r ≡ s
-  word-at-determined r s h k = h ∙ sym k
+  pub word_at_determined : (r s : ℕ) → r ≡ or_zero (read_be_u32 buf pos) → s ≡ or_zero (read_be_u32 buf pos) → r ≡ s
+  word_at_determined r s h k = h ∙ sym k
 
-  pub long-at-determined : (r s : ℕ) → r ≡ or_zero (read_be_u64 buf pos) → s ≡ or_zero (read_be_u64 buf pos) → r ≡ s
-  long-at-determined r s h k = h ∙ sym k
+  pub long_at_determined : (r s : ℕ) → r ≡ or_zero (read_be_u64 buf pos) → s ≡ or_zero (read_be_u64 buf pos) → r ≡ s
+  long_at_determined r s h k = h ∙ sym k
 
-  pub string-len-determined : (r s : ℕ) → r ≡ length (or_empty (read_bstring0 buf pos)) → s ≡ length (or_empty (read_bstring0 buf pos)) → r ≡ s
-  string-len-determined r s h k = h ∙ sym k
+  pub string_len_determined : (r s : ℕ) → r ≡ length (or_empty (read_bstring0 buf pos)) → s ≡ length (or_empty (read_bstring0 buf pos)) → r ≡ s
+  string_len_determined r s h k = h ∙ sym k

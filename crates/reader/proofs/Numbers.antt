@@ -10,8 +10,8 @@ use Rattle.format.specs.Answer.{or_zero}
 use Rattle.format.specs.Bytes.{number, part, value_at, word_at}
 use Rattle.format.specs.Read.{read_be_u32, read_be_u64}
 use Rattle.format.proofs.Bytes.{number_append}
-use Rattle.format.proofs.Read.{read-there}
-use Rattle.reader.proofs.Outcomes.{or-zero}
+use Rattle.format.proofs.Read.{read_there}
+use Rattle.reader.proofs.Outcomes.{or_zero_lem}
 
 -- one byte more
 more : (high : ℕ) (l : List ℕ) (k : ℕ) → k < length l → number high (take (suc k) l) ≡ number high (take k l) * 256 + get_or l k 0
@@ -46,16 +46,16 @@ module _ (b : List ℕ) (p : ℕ) where
       omega (arith, each 0 (omega arith), each 1 (omega arith), each 2 (omega arith), each 3 (omega arith))
 
   -- a long by its two words
-  pub long-words : p + 8 ≤ length b → value_at 8 b p ≡ word_at b p * 0x1_0000_0000 + word_at b (p + 4)
+  pub long_words : p + 8 ≤ length b → value_at 8 b p ≡ word_at b p * 0x1_0000_0000 + word_at b (p + 4)
   unfolding value_at part
-  long-words h =
+  long_words h =
       ap (number 0) (take-add 4 4 (drop p b) ∙ rw (drop-drop 4 p b))
       ∙ number_append 0 (take 4 (drop p b)) (take 4 (drop (p + 4) b))
       ∙ after (number 0 (take 4 (drop p b))) (drop (p + 4) b) (rw length-drop (omega arith))
 
   -- what `word_at` and `long_at` promise, where the bytes are there
   pub word_total : p + 4 ≤ length b → or_zero (read_be_u32 b p) ≡ word_at b p
-  word_total h = or-zero (read-there b 4 p h)
+  word_total h = or_zero_lem (read_there b 4 p h)
 
-  pub long-total : p + 8 ≤ length b → or_zero (read_be_u64 b p) ≡ value_at 8 b p
-  long-total h = or-zero (read-there b 8 p h)
+  pub long_total : p + 8 ≤ length b → or_zero (read_be_u64 b p) ≡ value_at 8 b p
+  long_total h = or_zero_lem (read_there b 8 p h)

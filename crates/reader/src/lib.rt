@@ -1,6 +1,7 @@
 // Readers of a blob, as src/util.rs has them: any position of any bytes gets an answer.
 // 3 (`Short`) is the answer where the Rust gives UnexpectedEndOfInput, and where it would panic or wrap.
 #![tactic(auto)]
+
 ghost use Rattle.std.specs.Prelude.{◌≡◌, ◌+◌, ◌≤◌, ◌<◌, length};
 ghost use Rattle.format.specs.Answer.{numbers, itself, place, span_at, or_empty, or_else, or_zero};
 ghost use Rattle.format.specs.Bytes.{word_at};

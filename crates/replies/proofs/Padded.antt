@@ -22,5 +22,5 @@ pub picked : {a b : Answer} (k i : ℕ) {n : ℕ} → n ≡ get_or (answer_numbe
 picked {a} k i e same = e ∙ padded (answer_numbers a) k i ∙ ap (λ (x : Answer). get_or (answer_numbers x) i 0) (sym same)
 
 -- 0 past six numbers
-pub past-six : (a b c d e f i : ℕ) → 5 < i → 0 ≡ get_or (a ∷ b ∷ c ∷ d ∷ e ∷ f ∷ []) i 0
-past-six a b c d e f i h = let g : length (a ∷ b ∷ c ∷ d ∷ e ∷ f ∷ []) ≤ i = omega arith in sym (get_or-eq_default (a ∷ b ∷ c ∷ d ∷ e ∷ f ∷ []) 0 g)
+pub past_six : (a b c d e f i : ℕ) → 5 < i → 0 ≡ get_or (a ∷ b ∷ c ∷ d ∷ e ∷ f ∷ []) i 0
+past_six a b c d e f i h = let g : length (a ∷ b ∷ c ∷ d ∷ e ∷ f ∷ []) ≤ i = omega arith in sym (get_or-eq_default (a ∷ b ∷ c ∷ d ∷ e ∷ f ∷ []) 0 g)

@@ -29,18 +29,18 @@ error_of answer.missing0 = UnexpectedEndOfInput
 error_of answer.too_short = UnexpectedEndOfInput
 error_of answer.not_usable = UnexpectedEndOfInput
 
-pub error-back : (why : DeviceTreeError) → error_of (why_of why) ≡ why
+pub error_back : (why : DeviceTreeError) → error_of (why_of why) ≡ why
 unfolding error_of why_of
-error-back InvalidMagicNumber = refl
-error-back SizeMismatch = refl
-error-back UnexpectedEndOfInput = refl
-error-back (ParseError p) = refl
-error-back Utf8Error = refl
-error-back VersionNotSupported = refl
-error-back (TooDeep p) = refl
-error-back (ReservationRoom n) = refl
-error-back (NodeRoom n) = refl
-error-back (PropertyRoom n) = refl
+error_back InvalidMagicNumber = refl
+error_back SizeMismatch = refl
+error_back UnexpectedEndOfInput = refl
+error_back (ParseError p) = refl
+error_back Utf8Error = refl
+error_back VersionNotSupported = refl
+error_back (TooDeep p) = refl
+error_back (ReservationRoom n) = refl
+error_back (NodeRoom n) = refl
+error_back (PropertyRoom n) = refl
 
 back : Outcome Plan → Surveyed
 back (ok v) = Good v
@@ -49,7 +49,7 @@ back (refused r) = Refused (error_of r)
 answer_back : (r : Surveyed) → back (survey_outcome r) ≡ r
 unfolding back survey_outcome
 answer_back (Good v) = refl
-answer_back (Refused why) = ap Refused (error-back why)
+answer_back (Refused why) = ap Refused (error_back why)
 
-pub survey-determined : (b : List ℕ) (r s : Surveyed) → survey_outcome r ≡ survey_of b → survey_outcome s ≡ survey_of b → r ≡ s
-survey-determined b r s h k = sym (answer_back r) ∙ ap back (h ∙ sym k) ∙ answer_back s
+pub survey_determined : (b : List ℕ) (r s : Surveyed) → survey_outcome r ≡ survey_of b → survey_outcome s ≡ survey_of b → r ≡ s
+survey_determined b r s h k = sym (answer_back r) ∙ ap back (h ∙ sym k) ∙ answer_back s

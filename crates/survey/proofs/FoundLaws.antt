@@ -12,8 +12,8 @@ use Rattle.format.specs.Tree.{Node, Reservation, Tree, node_count, property_coun
 use Rattle.format.specs.Rules.{ours}
 use Rattle.format.specs.Read as read
 use Rattle.format.specs.Load.{tree_numbers}
-use Rattle.format.proofs.Answer.{ok_same, refused-same, ok-then, step, then_ok, then-refused, then-then, never}
-use Rattle.format.proofs.Read.{read-there, read-inside}
+use Rattle.format.proofs.Answer.{ok_same, refused_same, ok_then, step, then_ok, then_refused, then_then, never}
+use Rattle.format.proofs.Read.{read_there, read_inside}
 use Rattle.survey.specs.Nodes.{block, counted}
 use Rattle.survey.specs.Reserve.{listed, scan_from}
 use Rattle.survey.specs.Survey.{header_of, names_of, survey_of}
@@ -58,20 +58,20 @@ plan_of b f = record {
 
 load_full : (b : List ℕ) → read.load ours b ≡ (full b >>= λ f. ok (tree_of f))
 unfolding read.load read.load_within read.body full tree_of listed
-load_full b = simp (then-then, ok-then)
+load_full b = simp (then_then, ok_then)
 
-survey-full : (b : List ℕ) → survey_of b ≡ (full b >>= λ f. ok (plan_of b f))
+survey_full : (b : List ℕ) → survey_of b ≡ (full b >>= λ f. ok (plan_of b f))
 unfolding survey_of header_of scan_from counted full plan_of own block names_of
-survey-full b = simp (then-then, ok-then)
+survey_full b = simp (then_then, ok_then)
 
 -- a refusal of what was made of an outcome is the outcome's own
-made-refused : {A B : Type 0} (m : Outcome A) (f : A → B) {r : Refusal} → (m >>= λ a. ok (f a)) ≡ refused r → m ≡ refused r
+made_refused : {A B : Type 0} (m : Outcome A) (f : A → B) {r : Refusal} → (m >>= λ a. ok (f a)) ≡ refused r → m ≡ refused r
 unfolding ◌>>=◌
-made-refused (ok a) f e = absurd (never (sym e))
-made-refused (refused s) f {r} e = ap refused (refused-same e)
+made_refused (ok a) f e = absurd (never (sym e))
+made_refused (refused s) f {r} e = ap refused (refused_same e)
 
-pub survey-refused : (b : List ℕ) (r : Refusal) → survey_of b ≡ refused r → read.load ours b ≡ refused r
-survey-refused b r e = load_full b ∙ then-refused _ _ (made-refused (full b) (plan_of b) (sym (survey-full b) ∙ e))
+pub survey_refused : (b : List ℕ) (r : Refusal) → survey_of b ≡ refused r → read.load ours b ≡ refused r
+survey_refused b r e = load_full b ∙ then_refused _ _ (made_refused (full b) (plan_of b) (sym (survey_full b) ∙ e))
 
 -- ---- what was found
 
@@ -93,7 +93,7 @@ pub record Finds (b : List ℕ) (v : Plan) : Type 0 where
   pub props : v.tree.props ≡ property_count tree.root
 
 word_of : (b : List ℕ) (p : ℕ) {n : ℕ} → read.read_be_u32 b p ≡ ok n → n ≡ word_at b p
-word_of b p e = ok_same (sym e ∙ read-there b 4 p (read-inside b 4 p e))
+word_of b p e = ok_same (sym e ∙ read_there b 4 p (read_inside b 4 p e))
 
 record Offsets (b : List ℕ) (h : read.Header) : Type 0 where
   structure : h.structure ≡ word_at b structure_at
@@ -114,9 +114,9 @@ offsets b h e =
     step _ _ e λ _ _ e.
     subst (Offsets b) (ok_same e) (record { structure = word_of b structure_at isStructure; strings = word_of b strings_at isStrings })
 
-full-finds : (b : List ℕ) (f : Full) → full b ≡ ok f → Finds b (plan_of b f)
+full_finds : (b : List ℕ) (f : Full) → full b ≡ ok f → Finds b (plan_of b f)
 unfolding full plan_of tree_of own names_of carried tree_numbers
-full-finds b f e =
+full_finds b f e =
     step _ _ e λ h isHeader e₁.
     step _ _ e₁ λ rs isListed e₂.
     step _ _ e₂ λ root isRoot e₃.
@@ -136,5 +136,5 @@ full-finds b f e =
       props = refl;
     }
 
-pub survey-finds : (b : List ℕ) (v : Plan) → survey_of b ≡ ok v → Finds b v
-survey-finds b v e = step _ _ (sym (survey-full b) ∙ e) λ f h e. subst (Finds b) (ok_same e) (full-finds b f h)
+pub survey_finds : (b : List ℕ) (v : Plan) → survey_of b ≡ ok v → Finds b v
+survey_finds b v e = step _ _ (sym (survey_full b) ∙ e) λ f h e. subst (Finds b) (ok_same e) (full_finds b f h)

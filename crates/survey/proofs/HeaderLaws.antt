@@ -14,9 +14,9 @@ use Rattle.format.specs.Bytes.{AreBytes}
 use Rattle.format.specs.Format.{magic, version, magic_at, total_size_at, structure_at, strings_at, reservations_at, version_at, boot_cpu_at}
 use Rattle.format.specs.Read.{read_be_u32}
 use Rattle.format.specs.Read as read
-use Rattle.format.proofs.Answer.{ok_same, step, then_ok, then-refused, checked, check-ok, check-no}
-use Rattle.format.proofs.Bytes.{value-small}
-use Rattle.format.proofs.Read.{read-there, read-inside}
+use Rattle.format.proofs.Answer.{ok_same, step, then_ok, then_refused, checked, check_ok, check_no}
+use Rattle.format.proofs.Bytes.{value_small}
+use Rattle.format.proofs.Read.{read_there, read_inside}
 use Rattle.reader.proofs.Numbers.{word_total}
 use Rattle.survey.specs.Survey.{header_of}
 use Rattle.survey.specs.declared.header.Header.{Header}
@@ -53,46 +53,46 @@ after_size b =
 module _ (b : List ℕ) where
   refuses : {r : Refusal} → read.header b ≡ refused r → header_of b ≡ refused r
   unfolding header_of
-  refuses e = then-refused _ _ e
+  refuses e = then_refused _ _ e
 
-  pub no-magic : {r : Refusal} → read_be_u32 b magic_at ≡ refused r → header_of b ≡ refused r
+  pub no_magic : {r : Refusal} → read_be_u32 b magic_at ≡ refused r → header_of b ≡ refused r
   unfolding read.header
-  no-magic e = refuses (then-refused _ _ e)
+  no_magic e = refuses (then_refused _ _ e)
 
-  pub bad-magic : {m : ℕ} → read_be_u32 b magic_at ≡ ok m → m ≢ magic → header_of b ≡ refused invalid_magic_number
+  pub bad_magic : {m : ℕ} → read_be_u32 b magic_at ≡ ok m → m ≢ magic → header_of b ≡ refused invalid_magic_number
   unfolding read.header
-  bad-magic {m} e n = refuses (then_ok _ _ e (then-refused _ _ (check-no _ (ne_eqb m magic n))))
+  bad_magic {m} e n = refuses (then_ok _ _ e (then_refused _ _ (check_no _ (ne_eqb m magic n))))
 
   module _ (m : Magic b) where
-    good-magic : eqb m.word magic ≡ true
-    good-magic = eq-eqb m.word magic m.good
+    good_magic : eqb m.word magic ≡ true
+    good_magic = eq-eqb m.word magic m.good
 
     pub no_size : {r : Refusal} → read_be_u32 b total_size_at ≡ refused r → header_of b ≡ refused r
     unfolding read.header
-    no_size e = refuses (then_ok _ _ m.is (then_ok _ _ (check-ok _ good-magic) (then-refused _ _ e)))
+    no_size e = refuses (then_ok _ _ m.is (then_ok _ _ (check_ok _ good_magic) (then_refused _ _ e)))
 
-    pub bad-size : {s : ℕ} → read_be_u32 b total_size_at ≡ ok s → s ≢ length b → header_of b ≡ refused size_mismatch
+    pub bad_size : {s : ℕ} → read_be_u32 b total_size_at ≡ ok s → s ≢ length b → header_of b ≡ refused size_mismatch
     unfolding read.header
-    bad-size {s} e n = refuses (then_ok _ _ m.is (then_ok _ _ (check-ok _ good-magic) (then_ok _ _ e (then-refused _ _ (check-no _ (ne_eqb s (length b) n))))))
+    bad_size {s} e n = refuses (then_ok _ _ m.is (then_ok _ _ (check_ok _ good_magic) (then_ok _ _ e (then_refused _ _ (check_no _ (ne_eqb s (length b) n))))))
 
   sized : Sized b → read.header b ≡ after_size b
   unfolding read.header after_size
   sized s =
-      then_ok _ _ s.before.is (then_ok _ _ (check-ok _ (good-magic s.before))
-      (then_ok _ _ s.is (then_ok _ _ (check-ok _ (eq-eqb s.word (length b) s.good)) refl)))
+      then_ok _ _ s.before.is (then_ok _ _ (check_ok _ (good_magic s.before))
+      (then_ok _ _ s.is (then_ok _ _ (check_ok _ (eq-eqb s.word (length b) s.good)) refl)))
 
-  pub no-version : {r : Refusal} → Sized b → read_be_u32 b version_at ≡ refused r → header_of b ≡ refused r
+  pub no_version : {r : Refusal} → Sized b → read_be_u32 b version_at ≡ refused r → header_of b ≡ refused r
   unfolding after_size
-  no-version s e = refuses (sized s ∙ then-refused _ _ e)
+  no_version s e = refuses (sized s ∙ then_refused _ _ e)
 
-  pub bad-version : {v : ℕ} → Sized b → read_be_u32 b version_at ≡ ok v → v ≢ version → header_of b ≡ refused version_not_supported
+  pub bad_version : {v : ℕ} → Sized b → read_be_u32 b version_at ≡ ok v → v ≢ version → header_of b ≡ refused version_not_supported
   unfolding after_size
-  bad-version {v} s e n = refuses (sized s ∙ then_ok _ _ e (then-refused _ _ (check-no _ (ne_eqb v version n))))
+  bad_version {v} s e n = refuses (sized s ∙ then_ok _ _ e (then_refused _ _ (check_no _ (ne_eqb v version n))))
 
   module _ (j : Judged b) where
     -- the words before the version are there where the version is, so a total read gives them
     there : (p : ℕ) → p ≤ version_at → read_be_u32 b p ≡ ok (or_zero (read_be_u32 b p))
-    there p h = let inside : p + 4 ≤ length b = omega (arith, read-inside b 4 version_at j.is) in read-there b 4 p inside ∙ ap ok (sym (word_total b p inside))
+    there p h = let inside : p + 4 ≤ length b = omega (arith, read_inside b 4 version_at j.is) in read_there b 4 p inside ∙ ap ok (sym (word_total b p inside))
 
     judged : {r : Outcome read.Header}
         → (read_be_u32 b boot_cpu_at >>= λ boot. ok (record {
@@ -103,11 +103,11 @@ module _ (b : List ℕ) where
         })) ≡ r → read.header b ≡ r
     unfolding after_size
     judged e =
-        sized j.before ∙ then_ok _ _ j.is (then_ok _ _ (check-ok _ (eq-eqb j.word version j.good))
+        sized j.before ∙ then_ok _ _ j.is (then_ok _ _ (check_ok _ (eq-eqb j.word version j.good))
         (then_ok _ _ (there structure_at (omega arith)) (then_ok _ _ (there strings_at (omega arith)) (then_ok _ _ (there reservations_at (omega arith)) e))))
 
-    pub no-boot : {r : Refusal} → read_be_u32 b boot_cpu_at ≡ refused r → header_of b ≡ refused r
-    no-boot e = refuses (judged (then-refused _ _ e))
+    pub no_boot : {r : Refusal} → read_be_u32 b boot_cpu_at ≡ refused r → header_of b ≡ refused r
+    no_boot e = refuses (judged (then_refused _ _ e))
 
     -- the whole header, by what the code's reads gave
     pub whole : {s n r boot : ℕ} → s ≡ or_zero (read_be_u32 b structure_at) → n ≡ or_zero (read_be_u32 b strings_at) → r ≡ or_zero (read_be_u32 b reservations_at)
@@ -125,12 +125,12 @@ pub record Fits (b : List ℕ) (h : Header) : Type 0 where
 
 word_fits : (b : List ℕ) (p : ℕ) {n : ℕ} → AreBytes b → read_be_u32 b p ≡ ok n → n < 2 ^ 32
 word_fits b p all e =
-    let inside = read-inside b 4 p e in
-    rw (ok_same (sym (read-there b 4 p inside) ∙ e)) at (value-small b p 4 all inside)
+    let inside = read_inside b 4 p e in
+    rw (ok_same (sym (read_there b 4 p inside) ∙ e)) at (value_small b p 4 all inside)
 
-pub header-fits : (b : List ℕ) (h : Header) → AreBytes b → header_of b ≡ ok h → Fits b h
+pub header_fits : (b : List ℕ) (h : Header) → AreBytes b → header_of b ≡ ok h → Fits b h
 unfolding header_of read.header
-header-fits b h all e =
+header_fits b h all e =
     step _ _ e λ g isG e.
     step _ _ isG λ _ _ isG.
     step _ _ isG λ _ _ isG.

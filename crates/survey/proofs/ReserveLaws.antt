@@ -11,42 +11,42 @@ use Rattle.format.specs.Answer.{Refusal, ok, refused, ◌>>=◌}
 use Rattle.format.specs.Rules.{ours, size_zero}
 use Rattle.format.specs.Read.{read_be_u64, reservation}
 use Rattle.format.proofs.Tools.{if_yes, if_no}
-use Rattle.format.proofs.Answer.{ok-then, then_ok, then-refused, then-then}
-use Rattle.format.proofs.Loops.{reservations-turn}
+use Rattle.format.proofs.Answer.{ok_then, then_ok, then_refused, then_then}
+use Rattle.format.proofs.Loops.{reservations_turn}
 use Rattle.survey.specs.Reserve.{listed, scan_from}
 
 sixteen : (p n : ℕ) → p + 16 * suc n ≡ p + 16 + 16 * n
 sixteen p n = omega arith
 
 module _ (b : List ℕ) where
-  pub list-turn : (p : ℕ) → listed b p ≡ (reservation b p >>= λ first.
+  pub list_turn : (p : ℕ) → listed b p ≡ (reservation b p >>= λ first.
       if size_zero first then ok (first ∷ []) else (listed b (p + 16) >>= λ rest. ok (first ∷ rest)))
   unfolding listed ours
-  list-turn p = reservations-turn b size_zero p
+  list_turn p = reservations_turn b size_zero p
 
   -- ---- the scan: an entry that is not there, the last one, another one
 
   module _ (p : ℕ) where
-    pub scan-no-offset : {r : Refusal} → read_be_u64 b p ≡ refused r → scan_from b p ≡ refused r
+    pub scan_no_offset : {r : Refusal} → read_be_u64 b p ≡ refused r → scan_from b p ≡ refused r
     unfolding scan_from reservation
-    scan-no-offset e = then-refused _ _ (list-turn p ∙ then-refused _ _ (then-refused _ _ e))
+    scan_no_offset e = then_refused _ _ (list_turn p ∙ then_refused _ _ (then_refused _ _ e))
 
     module _ {offset : ℕ} (isOffset : read_be_u64 b p ≡ ok offset) where
-      pub scan-no-size : {r : Refusal} → read_be_u64 b (p + 8) ≡ refused r → scan_from b p ≡ refused r
+      pub scan_no_size : {r : Refusal} → read_be_u64 b (p + 8) ≡ refused r → scan_from b p ≡ refused r
       unfolding scan_from reservation
-      scan-no-size e = then-refused _ _ (list-turn p ∙ then-refused _ _ (then_ok _ _ isOffset (then-refused _ _ e)))
+      scan_no_size e = then_refused _ _ (list_turn p ∙ then_refused _ _ (then_ok _ _ isOffset (then_refused _ _ e)))
 
       module _ {size : ℕ} (isSize : read_be_u64 b (p + 8) ≡ ok size) where
         entry : reservation b p ≡ ok (record { offset = offset; size = size })
         unfolding reservation
         entry = then_ok _ _ isOffset (then_ok _ _ isSize refl)
 
-        pub scan-last : size ≡ 0 → scan_from b p ≡ ok (p + 16)
+        pub scan_last : size ≡ 0 → scan_from b p ≡ ok (p + 16)
         unfolding scan_from size_zero
-        scan-last e = then_ok _ _ (list-turn p ∙ then_ok _ _ entry (if_yes _ _ (eq-eqb size 0 e))) refl
+        scan_last e = then_ok _ _ (list_turn p ∙ then_ok _ _ entry (if_yes _ _ (eq-eqb size 0 e))) refl
 
-        pub scan-more : size ≢ 0 → scan_from b p ≡ scan_from b (p + 16)
+        pub scan_more : size ≢ 0 → scan_from b p ≡ scan_from b (p + 16)
         unfolding scan_from size_zero
-        scan-more n =
-            ap (λ m. m >>= λ rs. ok (p + 16 * length rs)) (list-turn p ∙ then_ok _ _ entry (if_no _ _ (ne_eqb size 0 n)))
-            ∙ simp (then-then, ok-then, sixteen)
+        scan_more n =
+            ap (λ m. m >>= λ rs. ok (p + 16 * length rs)) (list_turn p ∙ then_ok _ _ entry (if_no _ _ (ne_eqb size 0 n)))
+            ∙ simp (then_then, ok_then, sixteen)

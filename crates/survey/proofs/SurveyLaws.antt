@@ -7,7 +7,7 @@ use Rattle.format.specs.Answer.{Refusal, ok, refused}
 use Rattle.format.specs.Format.{version}
 use Rattle.format.specs.Rules.{ours}
 use Rattle.format.specs.Read as read
-use Rattle.format.proofs.Answer.{ok_same, step, then_ok, then-refused}
+use Rattle.format.proofs.Answer.{ok_same, step, then_ok, then_refused}
 use Rattle.survey.specs.Nodes.{block, counted}
 use Rattle.survey.specs.Reserve.{scan_from}
 use Rattle.survey.specs.Survey.{header_of, names_of, survey_of}
@@ -17,21 +17,21 @@ use Rattle.survey.specs.declared.header.Header.{Header}
 module _ (b : List ℕ) where
   pub no_header : {r : Refusal} → header_of b ≡ refused r → survey_of b ≡ refused r
   unfolding survey_of
-  no_header e = then-refused _ _ e
+  no_header e = then_refused _ _ e
 
   module _ (h : Header) (isHeader : header_of b ≡ ok h) where
-    pub no-list : {r : Refusal} → scan_from b h.reservations ≡ refused r → survey_of b ≡ refused r
+    pub no_list : {r : Refusal} → scan_from b h.reservations ≡ refused r → survey_of b ≡ refused r
     unfolding survey_of
-    no-list e = then_ok _ _ isHeader (then-refused _ _ e)
+    no_list e = then_ok _ _ isHeader (then_refused _ _ e)
 
     module _ (end : ℕ) (isEnd : scan_from b h.reservations ≡ ok end) where
       pub end_after : h.reservations ≤ end
       unfolding scan_from
       end_after = step _ _ isEnd λ rs _ e. rw (← ok_same e) (omega arith)
 
-      pub no-root : {r : Refusal} → counted (read.node_load b (block (names_of b h)) (ours.depth_limit b) h.structure) ≡ refused r → survey_of b ≡ refused r
+      pub no_root : {r : Refusal} → counted (read.node_load b (block (names_of b h)) (ours.depth_limit b) h.structure) ≡ refused r → survey_of b ≡ refused r
       unfolding survey_of
-      no-root e = then_ok _ _ isHeader (then_ok _ _ isEnd (then-refused _ _ e))
+      no_root e = then_ok _ _ isHeader (then_ok _ _ isEnd (then_refused _ _ e))
 
       pub whole : (c : Passed) → counted (read.node_load b (block (names_of b h)) (ours.depth_limit b) h.structure) ≡ ok c
           → survey_of b ≡ ok (record {

@@ -1,5 +1,6 @@
 // The checking pass of a load: everything but the room is judged, nothing is written, and what is found is told by its places and counts.
 #![tactic(auto)]
+
 ghost use Rattle.std.specs.Prelude.{◌≡◌};
 ghost use Rattle.survey.specs.Outcomes.{survey_outcome};
 ghost use Rattle.survey.specs.Survey.{survey_of};

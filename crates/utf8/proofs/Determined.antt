@@ -7,13 +7,13 @@ use Rattle.utf8.specs.declared.Checked.{Checked}
 use Rattle.utf8.specs.declared.Checked.TheVariants as checked
 use Rattle.utf8.specs.Numbers.{checked_numbers}
 
-pub checked-by-numbers : (r s : Checked) → checked_numbers r ≡ checked_numbers s → r ≡ s
+pub checked_by_numbers : (r s : Checked) → checked_numbers r ≡ checked_numbers s → r ≡ s
 unfolding checked_numbers
-checked-by-numbers checked.Utf8 checked.Utf8 e = refl
-checked-by-numbers checked.Utf8 checked.NotUtf8 e = cc
-checked-by-numbers checked.NotUtf8 checked.Utf8 e = cc
-checked-by-numbers checked.NotUtf8 checked.NotUtf8 e = refl
+checked_by_numbers checked.Utf8 checked.Utf8 e = refl
+checked_by_numbers checked.Utf8 checked.NotUtf8 e = cc
+checked_by_numbers checked.NotUtf8 checked.Utf8 e = cc
+checked_by_numbers checked.NotUtf8 checked.NotUtf8 e = refl
 
-pub from-utf8-determined : (buf : List ℕ) (r s : Checked)
+pub from_utf8_determined : (buf : List ℕ) (r s : Checked)
     → checked_numbers r ≡ numbers nothing (utf8_check buf) → checked_numbers s ≡ numbers nothing (utf8_check buf) → r ≡ s
-from-utf8-determined buf r s h k = checked-by-numbers r s (h ∙ sym k)
+from_utf8_determined buf r s h k = checked_by_numbers r s (h ∙ sym k)

@@ -67,21 +67,21 @@ module _ (steps : List ℕ) where
 
 -- ---- a byte
 
-goes-found : (o : Option (List Range)) (s : List ℕ) → (elim o [ none ↦ false | some rs ↦ goes_on rs s ]) ≡ goes o s
+goes_found : (o : Option (List Range)) (s : List ℕ) → (elim o [ none ↦ false | some rs ↦ goes_on rs s ]) ≡ goes o s
 unfolding goes
-goes-found none s = refl
-goes-found (some rs) s = refl
+goes_found none s = refl
+goes_found (some rs) s = refl
 
-goes-within : (t : Bool) (rs : List Range) (s : List ℕ) → (t && goes_on rs s) ≡ goes (if t then some rs else none) s
+goes_within : (t : Bool) (rs : List Range) (s : List ℕ) → (t && goes_on rs s) ≡ goes (if t then some rs else none) s
 unfolding goes if◌then◌else◌
-goes-within true rs s = refl
-goes-within false rs s = refl
+goes_within true rs s = refl
+goes_within false rs s = refl
 
 goes_after : (e : Option (List Range)) (x : ℕ) (s : List ℕ) → goes e (x ∷ s) ≡ goes (after e x) s
 unfolding goes after goes_on
 goes_after none x s = refl
-goes_after (some []) x s = goes-found (further x) s
-goes_after (some (r ∷ rs)) x s = goes-within (within r x) rs s
+goes_after (some []) x s = goes_found (further x) s
+goes_after (some (r ∷ rs)) x s = goes_within (within r x) rs s
 
 -- at the end nothing may be expected
 goes_end : (q : ℕ) → q < length states → goes (expected q) [] ≡ eqb q 0
@@ -99,10 +99,10 @@ answers : (List ℕ → Bool) → List (List ℕ) → ℕ
 answers f [] = 0
 answers f (s ∷ ss) = (if f s then 1 else 0) + 2 * answers f ss
 
-same-answers : (f g : List ℕ → Bool) → ((s : List ℕ) → f s ≡ g s) → (ss : List (List ℕ)) → answers f ss ≡ answers g ss
+same_answers : (f g : List ℕ → Bool) → ((s : List ℕ) → f s ≡ g s) → (ss : List (List ℕ)) → answers f ss ≡ answers g ss
 unfolding answers
-same-answers f g e [] = refl
-same-answers f g e (s ∷ ss) = rw (e s, same-answers f g e ss)
+same_answers f g e [] = refl
+same_answers f g e (s ∷ ss) = rw (e s, same_answers f g e ss)
 
 place : ℕ → List ℕ → ℕ
 place n [] = 0
@@ -116,13 +116,13 @@ row_told : (q : ℕ) → q < length states → q ≡ row_by (answers (goes (expe
 unfolding values states expects expected goes goes_on further further_by leading_ones tail second within if◌then◌else◌ probes answers place row_by
 row_told = each (length states) (λ q. q) (λ q. row_by (answers (goes (expected q)) probes)) refl
 
-pub none-too-many : (q r : ℕ) → q < length states → r < length states → ((s : List ℕ) → goes (expected q) s ≡ goes (expected r) s) → q ≡ r
-none-too-many q r h k e = row_told q h ∙ ap row_by (same-answers (goes (expected q)) (goes (expected r)) e probes) ∙ sym (row_told r k)
+pub none_too_many : (q r : ℕ) → q < length states → r < length states → ((s : List ℕ) → goes (expected q) s ≡ goes (expected r) s) → q ≡ r
+none_too_many q r h k e = row_told q h ∙ ap row_by (same_answers (goes (expected q)) (goes (expected r)) e probes) ∙ sym (row_told r k)
 
 -- nothing follows a plain byte
-further-plain : (x : ℕ) → x < 0x80 → further x ≡ some []
+further_plain : (x : ℕ) → x < 0x80 → further x ≡ some []
 unfolding further further_by leading_ones if◌then◌else◌
-further-plain x h = let ones : leading_ones x ≡ 0 = rw (lt-ltb x 0x80 h) in rw ones
+further_plain x h = let ones : leading_ones x ≡ 0 = rw (lt-ltb x 0x80 h) in rw ones
 
 -- ---- a turn of a loop, and its end
 
@@ -132,16 +132,16 @@ module _ (b : List ℕ) (i : ℕ) where
       rw (drop-cons b i 0 h) (rw (add-one i) (goes_after e (get_or b i 0) (drop (suc i) b) ∙ ap (λ o. goes o (drop (suc i) b)) (sym k)))
 
   -- where nothing is expected and the byte is plain
-  pub turn-plain : i < length b → get_or b i 0 < 0x80 → goes_on [] (drop i b) ≡ goes_on [] (drop (i + 1) b)
+  pub turn_plain : i < length b → get_or b i 0 < 0x80 → goes_on [] (drop i b) ≡ goes_on [] (drop (i + 1) b)
   unfolding goes after
-  turn-plain h k = turn h (some []) (some []) (sym (further-plain (get_or b i 0) k))
+  turn_plain h k = turn h (some []) (some []) (sym (further_plain (get_or b i 0) k))
 
-  pub at-end : length b ≤ i → (q : ℕ) → q < length states → goes (expected q) (drop i b) ≡ eqb q 0
-  at-end h q k = rw (drop_of_length-le b h) (goes_end q k)
+  pub at_end : length b ≤ i → (q : ℕ) → q < length states → goes (expected q) (drop i b) ≡ eqb q 0
+  at_end h q k = rw (drop_of_length-le b h) (goes_end q k)
 
-  pub end-plain : length b ≤ i → goes_on [] (drop i b) ≡ true
+  pub end_plain : length b ≤ i → goes_on [] (drop i b) ≡ true
   unfolding goes expected expects states
-  end-plain h = at-end h 0 (omega arith)
+  end_plain h = at_end h 0 (omega arith)
 
   -- the rest of the bytes, where the ones before are passed
   pub rest : from_utf8 b ≡ goes_on [] (drop i b) → utf8_check (take (length b - i) (drop i b)) ≡ utf8_check b

@@ -26,59 +26,59 @@ why_back l = by l 11 why.NotFound (by l 5 why.Utf8Error (by l 12 why.Missing0 (b
 text_back : List ℕ → Text
 text_back l = by l 0 (text.Part (get_or l 1 0) (get_or l 2 0)) (text.Refused (why_back l))
 
-text-back : (x : Text) → text_back (text_numbers x) ≡ x
+text_back_lem : (x : Text) → text_back (text_numbers x) ≡ x
 unfolding text_numbers why_numbers text_back why_back
-text-back (text.Part start len) = refl
-text-back (text.Refused why.NotFound) = refl
-text-back (text.Refused why.Utf8Error) = refl
-text-back (text.Refused why.Missing0) = refl
-text-back (text.Refused why.Short) = refl
-text-back (text.Refused why.Unusable) = refl
+text_back_lem (text.Part start len) = refl
+text_back_lem (text.Refused why.NotFound) = refl
+text_back_lem (text.Refused why.Utf8Error) = refl
+text_back_lem (text.Refused why.Missing0) = refl
+text_back_lem (text.Refused why.Short) = refl
+text_back_lem (text.Refused why.Unusable) = refl
 
-pub text-by-numbers : (r s : Text) → text_numbers r ≡ text_numbers s → r ≡ s
-text-by-numbers = told text_numbers text_back text-back
+pub text_by_numbers : (r s : Text) → text_numbers r ≡ text_numbers s → r ≡ s
+text_by_numbers = told text_numbers text_back text_back_lem
 
 number32_back : List ℕ → Number32
 number32_back l = by l 0 (n32.Got (get_or l 1 0)) (n32.Refused (why_back l))
 
-number32-back : (x : Number32) → number32_back (number32_numbers x) ≡ x
+number32_back_lem : (x : Number32) → number32_back (number32_numbers x) ≡ x
 unfolding number32_numbers why_numbers number32_back why_back
-number32-back (n32.Got n) = refl
-number32-back (n32.Refused why.NotFound) = refl
-number32-back (n32.Refused why.Utf8Error) = refl
-number32-back (n32.Refused why.Missing0) = refl
-number32-back (n32.Refused why.Short) = refl
-number32-back (n32.Refused why.Unusable) = refl
+number32_back_lem (n32.Got n) = refl
+number32_back_lem (n32.Refused why.NotFound) = refl
+number32_back_lem (n32.Refused why.Utf8Error) = refl
+number32_back_lem (n32.Refused why.Missing0) = refl
+number32_back_lem (n32.Refused why.Short) = refl
+number32_back_lem (n32.Refused why.Unusable) = refl
 
-pub number32-by-numbers : (r s : Number32) → number32_numbers r ≡ number32_numbers s → r ≡ s
-number32-by-numbers = told number32_numbers number32_back number32-back
+pub number32_by_numbers : (r s : Number32) → number32_numbers r ≡ number32_numbers s → r ≡ s
+number32_by_numbers = told number32_numbers number32_back number32_back_lem
 
 number64_back : List ℕ → Number64
 number64_back l = by l 0 (n64.Got (get_or l 1 0)) (n64.Refused (why_back l))
 
-number64-back : (x : Number64) → number64_back (number64_numbers x) ≡ x
+number64_back_lem : (x : Number64) → number64_back (number64_numbers x) ≡ x
 unfolding number64_numbers why_numbers number64_back why_back
-number64-back (n64.Got n) = refl
-number64-back (n64.Refused why.NotFound) = refl
-number64-back (n64.Refused why.Utf8Error) = refl
-number64-back (n64.Refused why.Missing0) = refl
-number64-back (n64.Refused why.Short) = refl
-number64-back (n64.Refused why.Unusable) = refl
+number64_back_lem (n64.Got n) = refl
+number64_back_lem (n64.Refused why.NotFound) = refl
+number64_back_lem (n64.Refused why.Utf8Error) = refl
+number64_back_lem (n64.Refused why.Missing0) = refl
+number64_back_lem (n64.Refused why.Short) = refl
+number64_back_lem (n64.Refused why.Unusable) = refl
 
-pub number64-by-numbers : (r s : Number64) → number64_numbers r ≡ number64_numbers s → r ≡ s
-number64-by-numbers = told number64_numbers number64_back number64-back
+pub number64_by_numbers : (r s : Number64) → number64_numbers r ≡ number64_numbers s → r ≡ s
+number64_by_numbers = told number64_numbers number64_back number64_back_lem
 
 -- ---- the calls
 
 module _ (b : List ℕ) (l : Lent) (row : ℕ) (name : List ℕ) where
-  pub prop-str-determined : (r s : Text) → text_numbers r ≡ numbers place (prop_str b l row name) → text_numbers s ≡ numbers place (prop_str b l row name) → r ≡ s
-  prop-str-determined r s e f = text-by-numbers r s (e ∙ sym f)
+  pub prop_str_determined : (r s : Text) → text_numbers r ≡ numbers place (prop_str b l row name) → text_numbers s ≡ numbers place (prop_str b l row name) → r ≡ s
+  prop_str_determined r s e f = text_by_numbers r s (e ∙ sym f)
 
-  pub prop-str-part-determined : (r s : List ℕ) → r ≡ or_empty (bytes_in b (prop_str b l row name)) → s ≡ or_empty (bytes_in b (prop_str b l row name)) → r ≡ s
-  prop-str-part-determined r s e f = e ∙ sym f
+  pub prop_str_part_determined : (r s : List ℕ) → r ≡ or_empty (bytes_in b (prop_str b l row name)) → s ≡ or_empty (bytes_in b (prop_str b l row name)) → r ≡ s
+  prop_str_part_determined r s e f = e ∙ sym f
 
-  pub prop-u32-determined : (r s : Number32) → number32_numbers r ≡ numbers itself (prop_u32 b l row name) → number32_numbers s ≡ numbers itself (prop_u32 b l row name) → r ≡ s
-  prop-u32-determined r s e f = number32-by-numbers r s (e ∙ sym f)
+  pub prop_u32_determined : (r s : Number32) → number32_numbers r ≡ numbers itself (prop_u32 b l row name) → number32_numbers s ≡ numbers itself (prop_u32 b l row name) → r ≡ s
+  prop_u32_determined r s e f = number32_by_numbers r s (e ∙ sym f)
 
-  pub prop-u64-determined : (r s : Number64) → number64_numbers r ≡ numbers itself (prop_u64 b l row name) → number64_numbers s ≡ numbers itself (prop_u64 b l row name) → r ≡ s
-  prop-u64-determined r s e f = number64-by-numbers r s (e ∙ sym f)
+  pub prop_u64_determined : (r s : Number64) → number64_numbers r ≡ numbers itself (prop_u64 b l row name) → number64_numbers s ≡ numbers itself (prop_u64 b l row name) → r ≡ s
+  prop_u64_determined r s e f = number64_by_numbers r s (e ∙ sym f)

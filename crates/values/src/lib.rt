@@ -1,5 +1,6 @@
 // What a property's value is: a text, or a number of its first bytes. Whatever the tables hold, a call gets an answer; nothing is written.
 #![tactic(auto)]
+
 ghost use Rattle.std.specs.Prelude.{◌≡◌};
 ghost use Rattle.format.specs.Answer.{numbers, itself, place, span_at, or_empty};
 ghost use Rattle.format.specs.Find.{as_string};

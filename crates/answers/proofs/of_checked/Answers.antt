@@ -1,5 +1,5 @@
 -- `of_checked` meets its contract: the same numbers, case by case. Assumes nothing.
-use mathlib.Core.Path.{sym, ap, ◌∙◌}
+use mathlib.Core.Path.{sym, ap}
 use Rattle.utf8.specs.Numbers.{checked_numbers}
 use Rattle.answers.specs.Answers.{answer_numbers}
 use Rattle.answers.proofs.of_checked.Goals as goal

@@ -1,5 +1,5 @@
 -- `of_refusal` meets its contract: the same numbers, case by case. Assumes nothing.
-use mathlib.Core.Path.{sym, ap, ◌∙◌}
+use mathlib.Core.Path.{sym, ap}
 use Prim.Native.Nat.{ℕ}
 use mathlib.Core.List.{List}
 use Rattle.format.specs.Answer.{refusal_numbers}

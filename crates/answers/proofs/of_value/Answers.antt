@@ -1,5 +1,5 @@
 -- `of_value` meets its contract: the same numbers, case by case. Assumes nothing.
-use mathlib.Core.Path.{sym, ap, ◌∙◌}
+use mathlib.Core.Path.{sym, ap}
 use Rattle.lookup.specs.Answers.{value_numbers}
 use Rattle.answers.specs.Answers.{answer_numbers}
 use Rattle.answers.proofs.of_value.Goals as goal

@@ -1,5 +1,5 @@
 -- `of_word` meets its contract: the same numbers, case by case. Assumes nothing.
-use mathlib.Core.Path.{sym, ap, ◌∙◌}
+use mathlib.Core.Path.{sym, ap}
 use Rattle.reader.specs.Numbers.{word_numbers}
 use Rattle.answers.specs.Answers.{answer_numbers}
 use Rattle.answers.proofs.of_word.Goals as goal

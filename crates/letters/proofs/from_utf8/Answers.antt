@@ -2,14 +2,14 @@
 use mathlib.Core.Path.{◌∙◌}
 use Rattle.answers.specs.Answers.{answer_numbers}
 use Rattle.letters.specs.Replies.{utf8_reply}
-use Rattle.letters.proofs.ReplyLaws.{bytes-bad, bytes-are}
+use Rattle.letters.proofs.ReplyLaws.{bytes_bad, bytes_are}
 use Rattle.letters.proofs.from_utf8.Goals as goal
 
 pub returns-in-Bad : goal.returns-in-Bad
 unfolding answer_numbers utf8_reply
-returns-in-Bad c = bytes-bad _ c.bytes.ensures c.in-Bad.is
+returns-in-Bad c = bytes_bad _ c.bytes.ensures c.in-Bad.is
 
 pub returns-in-Is : goal.returns-in-Is
 unfolding utf8_reply
 returns-in-Is c =
-    c.of_checked.ensures ∙ c.from_utf8.ensures ∙ bytes-are _ c.bytes.ensures c.in-Is.is c.upto.ensures
+    c.of_checked.ensures ∙ c.from_utf8.ensures ∙ bytes_are _ c.bytes.ensures c.in-Is.is c.upto.ensures

@@ -2,7 +2,6 @@
 use Prim.Native.Nat.{◌-◌}
 use lib.ListN.{length}
 use Rattle.names.specs.Scan.{Scan}
-use Rattle.names.proofs.NameLaws.{scan-more, scan-slash, scan-end}
 use Rattle.names.proofs.name_end.Given as goal
 
 abbrev pub invariant-loop-i : goal.invariant-loop-i

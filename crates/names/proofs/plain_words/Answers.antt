@@ -1,13 +1,10 @@
 -- `plain_words` meets its contract: no slash stands before i. Measure: the bytes ahead. Assumes nothing.
 use native.Mathlib.Omega.{arith}
-use Prim.Native.Nat.{◌-◌}
-use lib.ListN.{length}
-use Rattle.names.specs.Scan.{Scan}
-use Rattle.names.proofs.NameLaws.{scan-start}
+use Rattle.names.proofs.NameLaws.{scan_start}
 use Rattle.names.proofs.plain_words.Goals as goal
 
 pub loop-i-init : goal.loop-i-init
-loop-i-init c = scan-start _
+loop-i-init c = scan_start _
 
 pub slash_in_word-requires : goal.slash_in_word-requires
 slash_in_word-requires c = omega (arith, c.loop-i-test.true, c.loop-i.invariant.inside)

@@ -1,9 +1,7 @@
 -- `plain_words` meets its contract: no slash stands before i. Measure: the bytes ahead. Assumes nothing.
-use native.Mathlib.Omega.{arith}
 use Prim.Native.Nat.{◌-◌}
 use lib.ListN.{length}
 use Rattle.names.specs.Scan.{Scan}
-use Rattle.names.proofs.NameLaws.{scan-start}
 use Rattle.names.proofs.plain_words.Given as goal
 
 abbrev pub invariant-loop-i : goal.invariant-loop-i

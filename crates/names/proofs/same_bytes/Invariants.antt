@@ -1,10 +1,7 @@
 -- `same_bytes` meets its contract: before each turn every byte after the word at i is the same. Assumes nothing.
-use native.Mathlib.Omega.{arith}
-use mathlib.Core.Path.{sym, ◌∙◌}
 use Prim.Native.Nat.{◌+◌, ◌≤◌}
 use lib.ListN.{length}
-use Rattle.format.specs.Bytes.{AreBytes}
-use Rattle.names.proofs.NameLaws.{Alike, word-alike, word-differs, first_word}
+use Rattle.names.proofs.NameLaws.{Alike}
 use Rattle.names.proofs.same_bytes.Given as goal
 
 abbrev pub invariant-loop-i : goal.invariant-loop-i

@@ -1,8 +1,7 @@
 -- `same_few` meets its contract: before each turn every byte from i on is the same. Assumes nothing.
-use native.Mathlib.Omega.{arith}
-use Prim.Native.Nat.{◌-◌, ◌≤◌}
+use Prim.Native.Nat.{◌≤◌}
 use lib.ListN.{length}
-use Rattle.names.proofs.NameLaws.{Alike, alike_same, alike-more, byte-differs}
+use Rattle.names.proofs.NameLaws.{Alike}
 use Rattle.names.proofs.same_few.Given as goal
 
 abbrev pub invariant-loop-i : goal.invariant-loop-i

@@ -6,18 +6,18 @@ use native.Mathlib.Nat.{mod-lt}
 use Prim.Native.Nat.{◌<◌}
 use Rattle.format.proofs.Bytes.{align_same, align_more}
 use Rattle.reader.specs.Outcomes.{place_outcome}
-use Rattle.reader.proofs.Outcomes.{place-promise}
-use Rattle.reader.proofs.Rounding.{aligned-none, aligned-is, aligned-past}
+use Rattle.reader.proofs.Outcomes.{place_promise}
+use Rattle.reader.proofs.Rounding.{aligned_none, aligned_is, aligned_past}
 use Rattle.reader.proofs.align.Goals as goal
 
 pub returns-then-to-eq0 : goal.returns-then-to-eq0
 unfolding place_outcome
-returns-then-to-eq0 c = place-promise _ (sym (aligned-none _ _ c.if-to-eq0.true))
+returns-then-to-eq0 c = place_promise _ (sym (aligned_none _ _ c.if-to-eq0.true))
 
 pub returns-then-over-eq0 : goal.returns-then-over-eq0
 unfolding place_outcome
 returns-then-over-eq0 c =
-    place-promise _ (sym (aligned-is _ _ c.if-to-eq0.false (align_same _ _ c.if-over-eq0.true) c.ranges.val.fits))
+    place_promise _ (sym (aligned_is _ _ c.if-to-eq0.false (align_same _ _ c.if-over-eq0.true) c.ranges.val.fits))
 
 pub overflow_sub-more : goal.overflow_sub-more
 overflow_sub-more c =
@@ -30,11 +30,11 @@ unfolding place_outcome
 returns-then-val-more c =
     let a = c.args in
     let some : 0 < a.to = omega arith in
-    place-promise _ (sym (aligned-past _ _ c.if-to-eq0.false (omega (arith, align_more a.val a.to some c.if-over-eq0.false))))
+    place_promise _ (sym (aligned_past _ _ c.if-to-eq0.false (omega (arith, align_more a.val a.to some c.if-over-eq0.false))))
 
 pub returns : goal.returns
 unfolding place_outcome
 returns c =
     let a = c.args in
     let some : 0 < a.to = omega arith in
-    place-promise _ (sym (aligned-is _ _ c.if-to-eq0.false (align_more a.val a.to some c.if-over-eq0.false) (omega arith)))
+    place_promise _ (sym (aligned_is _ _ c.if-to-eq0.false (align_more a.val a.to some c.if-over-eq0.false) (omega arith)))

@@ -1,14 +1,11 @@
 -- `read_bstring0` meets its promise. The invariant: the string at pos, with the bytes before cur passed, is still the answer.
 -- Assumes nothing.
-use mathlib.Core.Path.{◌≡◌, sym, ◌∙◌}
+use mathlib.Core.Path.{◌≡◌}
 use Prim.Native.Nat.{◌-◌, ◌≤◌}
-use native.Mathlib.Omega.{arith}
 use lib.ListN.{length}
 use Rattle.format.specs.Answer.{span_at}
 use Rattle.format.specs.Read.{read_bstring0}
-use Rattle.reader.specs.Outcomes.{span_outcome}
-use Rattle.reader.proofs.Outcomes.{span-promise}
-use Rattle.reader.proofs.Strings.{passed, passed_none, passed-zero, passed-one, passed-all}
+use Rattle.reader.proofs.Strings.{passed}
 use Rattle.reader.proofs.read_bstring0.Given as goal
 
 abbrev pub invariant-loop-cur : goal.invariant-loop-cur

@@ -2,14 +2,14 @@
 use mathlib.Core.Path.{sym, ap, ◌∙◌}
 use lib.ListN.{length}
 use Rattle.format.specs.Answer.{or_empty}
-use Rattle.reader.proofs.Outcomes.{or-empty}
-use Rattle.reader.proofs.Parts.{span-part, span_none}
+use Rattle.reader.proofs.Outcomes.{or_empty_lem}
+use Rattle.reader.proofs.Parts.{span_part, span_none}
 use Rattle.reader.proofs.string_len.Goals as goal
 
 pub returns-in-Part : goal.returns-in-Part
 returns-in-Part c =
-    let t = span-part _ _ c.in-Part.is c.read_bstring0.ensures in
-    t.size ∙ ap length (sym (or-empty t.read))
+    let t = span_part _ _ c.in-Part.is c.read_bstring0.ensures in
+    t.size ∙ ap length (sym (or_empty_lem t.read))
 
 pub returns-in-Short : goal.returns-in-Short
 unfolding or_empty

@@ -1,16 +1,15 @@
 -- `all_steps` meets its promise. The invariant: the bytes are UTF-8 exactly where those from i on are what the state expects.
 -- Assumes nothing.
-use Rattle.std.specs.Prelude.{◌≡◌, ◌-◌, ◌<◌, ◌≤◌, length, drop}
 use mathlib.Core.Path.{refl, sym, ◌∙◌}
 use native.Mathlib.Omega.{arith}
 use borrow.Author.Tests.{eq-eqb, ne_eqb}
 use Rattle.format.specs.Utf8.{from_utf8}
 use Rattle.format.specs.Read.{utf8_check}
-use Rattle.format.proofs.Answer.{check-ok, check-no}
+use Rattle.format.proofs.Answer.{check_ok, check_no}
 use Rattle.utf8.specs.Outcomes.{checked_outcome}
 use Rattle.utf8.specs.Expected.{states, expects, expected, goes}
-use Rattle.utf8.proofs.Outcomes.{checked-promise}
-use Rattle.utf8.proofs.Expected.{turn, at-end}
+use Rattle.utf8.proofs.Outcomes.{checked_promise}
+use Rattle.utf8.proofs.Expected.{turn, at_end}
 use Rattle.utf8.proofs.all_steps.Goals as goal
 
 pub loop-i-init : goal.loop-i-init
@@ -31,10 +30,10 @@ pub returns-then-state-eq-NOTHING : goal.returns-then-state-eq-NOTHING
 unfolding checked_outcome utf8_check
 returns-then-state-eq-NOTHING c =
     let inv = c.loop-i.invariant in
-    checked-promise _ (sym (check-ok _ (inv.1.1 ∙ at-end _ _ c.loop-i-test.false _ inv.1.0 ∙ eq-eqb _ 0 c.if-state-eq-NOTHING.true)))
+    checked_promise _ (sym (check_ok _ (inv.1.1 ∙ at_end _ _ c.loop-i-test.false _ inv.1.0 ∙ eq-eqb _ 0 c.if-state-eq-NOTHING.true)))
 
 pub returns : goal.returns
 unfolding checked_outcome utf8_check
 returns c =
     let inv = c.loop-i.invariant in
-    checked-promise _ (sym (check-no _ (inv.1.1 ∙ at-end _ _ c.loop-i-test.false _ inv.1.0 ∙ ne_eqb _ 0 c.if-state-eq-NOTHING.false)))
+    checked_promise _ (sym (check_no _ (inv.1.1 ∙ at_end _ _ c.loop-i-test.false _ inv.1.0 ∙ ne_eqb _ 0 c.if-state-eq-NOTHING.false)))

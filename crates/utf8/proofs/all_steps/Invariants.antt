@@ -1,16 +1,8 @@
 -- `all_steps` meets its promise. The invariant: the bytes are UTF-8 exactly where those from i on are what the state expects.
 -- Assumes nothing.
 use Rattle.std.specs.Prelude.{◌≡◌, ◌-◌, ◌<◌, ◌≤◌, length, drop}
-use mathlib.Core.Path.{refl, sym, ◌∙◌}
-use native.Mathlib.Omega.{arith}
-use borrow.Author.Tests.{eq-eqb, ne_eqb}
 use Rattle.format.specs.Utf8.{from_utf8}
-use Rattle.format.specs.Read.{utf8_check}
-use Rattle.format.proofs.Answer.{check-ok, check-no}
-use Rattle.utf8.specs.Outcomes.{checked_outcome}
-use Rattle.utf8.specs.Expected.{states, expects, expected, goes}
-use Rattle.utf8.proofs.Outcomes.{checked-promise}
-use Rattle.utf8.proofs.Expected.{turn, at-end}
+use Rattle.utf8.specs.Expected.{states, expected, goes}
 use Rattle.utf8.proofs.all_steps.Given as goal
 
 abbrev pub invariant-loop-i : goal.invariant-loop-i

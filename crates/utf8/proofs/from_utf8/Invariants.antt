@@ -1,14 +1,6 @@
 -- `from_utf8` meets its promise. The invariant: the bytes are UTF-8 exactly where those from i on are. Assumes nothing.
 use Rattle.std.specs.Prelude.{◌≡◌, ◌-◌, ◌≤◌, [], length, drop}
-use mathlib.Core.Path.{refl, sym, ap, ◌∙◌}
-use native.Mathlib.Omega.{arith}
-use Rattle.format.specs.Answer.{numbers, nothing}
 use Rattle.format.specs.Utf8.{goes_on, from_utf8}
-use Rattle.format.specs.Read.{utf8_check}
-use Rattle.format.proofs.Answer.{check-ok}
-use Rattle.utf8.specs.Outcomes.{checked_outcome}
-use Rattle.utf8.proofs.Outcomes.{checked-promise}
-use Rattle.utf8.proofs.Expected.{turn-plain, end-plain, rest}
 use Rattle.utf8.proofs.from_utf8.Given as goal
 
 abbrev pub invariant-loop-i : goal.invariant-loop-i

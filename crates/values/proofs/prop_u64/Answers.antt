@@ -4,17 +4,17 @@ use Rattle.format.specs.Answer.{ok}
 use Rattle.format.specs.Lookup.{prop_u64}
 use Rattle.values.specs.Answers.{number64_outcome}
 use Rattle.values.specs.declared.Number64.TheVariants.{Got, Refused}
-use Rattle.values.proofs.Outcomes.{number64-promise}
-use Rattle.values.proofs.ValueLaws.{number-got, number-not}
+use Rattle.values.proofs.Outcomes.{number64_promise}
+use Rattle.values.proofs.ValueLaws.{number_got, number_not}
 use Rattle.values.proofs.prop_u64.Goals as goal
 
 pub returns-in-At : goal.returns-in-At
 unfolding prop_u64 number64_outcome
 returns-in-At c =
-    number64-promise (Got _)
-    (ap ok c.long_at.ensures ∙ number-got _ _ _ _ 8 _ _ c.prop_raw.ensures c.begin_of.ensures c.in-At.is)
+    number64_promise (Got _)
+    (ap ok c.long_at.ensures ∙ number_got _ _ _ _ 8 _ _ c.prop_raw.ensures c.begin_of.ensures c.in-At.is)
 
 pub returns-in-Refused : goal.returns-in-Refused
 unfolding prop_u64 number64_outcome
 returns-in-Refused c =
-    number64-promise (Refused _) (number-not _ _ _ _ 8 _ _ c.prop_raw.ensures c.begin_of.ensures c.in-Refused.is)
+    number64_promise (Refused _) (number_not _ _ _ _ 8 _ _ c.prop_raw.ensures c.begin_of.ensures c.in-Refused.is)

@@ -3,7 +3,7 @@
 use borrow.Author.Rules.{rules}
 use native.Mathlib.Omega.{arith}
 use mathlib.Core.Path.{◌∙◌, sym, refl}
-use Rattle.lines.proofs.FieldLaws.{drop_past, first-nil, rest-nil, first-space, rest-space, rest_more, first-grows, first_ends}
+use Rattle.lines.proofs.FieldLaws.{drop_past, first_nil, rest_nil, first_space, rest_space, rest_more, first_grows, first_ends}
 use Rattle.lines.proofs.fields.end.Goals as goal
 
 pub loop-i-init : goal.loop-i-init
@@ -14,7 +14,7 @@ loop-i-preserved c =
     let loop = c.loop-i in
     let loop-test = c.loop-i-test in (
       omega arith,
-      first-grows _ _ loop-test.true c.if-s-i-eq32.false loop.invariant.1,
+      first_grows _ _ loop-test.true c.if-s-i-eq32.false loop.invariant.1,
       loop.invariant.2 ∙ rest_more _ _ loop-test.true c.if-s-i-eq32.false,
     )
 
@@ -25,8 +25,8 @@ returns-then-s-i-eq32 c =
     let loop-test = c.loop-i-test in
     record {
       within = search rules;
-      first = first_ends args.s.now loop.i loop.invariant.1 (first-space args.s.now loop.i loop-test.true c.if-s-i-eq32.true);
-      rest = loop.invariant.2 ∙ rest-space _ _ loop-test.true c.if-s-i-eq32.true;
+      first = first_ends args.s.now loop.i loop.invariant.1 (first_space args.s.now loop.i loop-test.true c.if-s-i-eq32.true);
+      rest = loop.invariant.2 ∙ rest_space _ _ loop-test.true c.if-s-i-eq32.true;
     }
 
 pub returns : goal.returns
@@ -34,6 +34,6 @@ returns c =
     let args = c.args in
     record {
       within = search rules;
-      first = first_ends args.s.now c.loop-i.i c.loop-i.invariant.1 (first-nil args.s.now c.loop-i.i c.loop-i-test.false);
-      rest = c.loop-i.invariant.2 ∙ rest-nil _ _ c.loop-i-test.false ∙ sym (drop_past args.s.now c.loop-i.i c.loop-i-test.false);
+      first = first_ends args.s.now c.loop-i.i c.loop-i.invariant.1 (first_nil args.s.now c.loop-i.i c.loop-i-test.false);
+      rest = c.loop-i.invariant.2 ∙ rest_nil _ _ c.loop-i-test.false ∙ sym (drop_past args.s.now c.loop-i.i c.loop-i-test.false);
     }

@@ -10,34 +10,34 @@ use Rattle.loader.specs.Pass.{passed}
 use Rattle.survey.specs.Outcomes.{survey_outcome}
 use Rattle.survey.specs.Survey.{survey_of}
 use Rattle.loader.specs.Numbers.{lent}
-use Rattle.loader.proofs.LoadLaws.{survey-refuses, no-reservation-room, no-node-room, no-property-room, Passes, stores-ready, writes-ready, loaded}
+use Rattle.loader.proofs.LoadLaws.{survey_refuses, no_reservation_room, no_node_room, no_property_room, Passes, stores_ready, writes_ready, loaded}
 use Rattle.loader.proofs.loading.load.Goals as goal
 
 pub returns-in-Refused : goal.returns-in-Refused
 unfolding survey_outcome
 returns-in-Refused c =
-    survey-refuses _ _ _ (sym c.survey.ensures ∙ ap survey_outcome c.in-Refused.is)
+    survey_refuses _ _ _ (sym c.survey.ensures ∙ ap survey_outcome c.in-Refused.is)
 
 pub returns-then-reserved-tree : goal.returns-then-reserved-tree
 unfolding lent capacity reservation_width survey_outcome
 returns-then-reserved-tree c =
     let tables : Tables = let a = c.args in lent a.reserved.now a.nodes.now a.props.now in
     let isPlan : survey_of c.args.b.now ≡ ok c.in-Good.plan = sym c.survey.ensures ∙ ap survey_outcome c.in-Good.is in
-    no-reservation-room tables _ _ isPlan c.if-reserved-tree.true
+    no_reservation_room tables _ _ isPlan c.if-reserved-tree.true
 
 pub returns-then-nodes-tree : goal.returns-then-nodes-tree
 unfolding lent capacity reservation_width node_width survey_outcome
 returns-then-nodes-tree c =
     let tables : Tables = let a = c.args in lent a.reserved.now a.nodes.now a.props.now in
     let isPlan : survey_of c.args.b.now ≡ ok c.in-Good.plan = sym c.survey.ensures ∙ ap survey_outcome c.in-Good.is in
-    no-node-room tables _ _ isPlan c.if-reserved-tree.false c.if-nodes-tree.true
+    no_node_room tables _ _ isPlan c.if-reserved-tree.false c.if-nodes-tree.true
 
 pub returns-then-props-tree : goal.returns-then-props-tree
 unfolding lent capacity reservation_width node_width property_width survey_outcome
 returns-then-props-tree c =
     let tables : Tables = let a = c.args in lent a.reserved.now a.nodes.now a.props.now in
     let isPlan : survey_of c.args.b.now ≡ ok c.in-Good.plan = sym c.survey.ensures ∙ ap survey_outcome c.in-Good.is in
-    no-property-room tables _ _ isPlan c.if-reserved-tree.false c.if-nodes-tree.false c.if-props-tree.true
+    no_property_room tables _ _ isPlan c.if-reserved-tree.false c.if-nodes-tree.false c.if-props-tree.true
 
 pub store-requires : goal.store-requires
 unfolding lent survey_outcome capacity reservation_width node_width property_width AreBytes
@@ -49,9 +49,9 @@ store-requires c =
       reserved = c.if-reserved-tree.false;
       nodes = c.if-nodes-tree.false;
       props = c.if-props-tree.false;
-      bytes = λ i. (c.shared_slice_known-1.given i).fits;
+      bytes = λ i. (c.type_inv.b i).fits;
     } in
-    stores-ready passes
+    stores_ready passes
 
 pub write_node-requires : goal.write_node-requires
 unfolding lent ours survey_outcome capacity reservation_width node_width property_width AreBytes
@@ -63,9 +63,9 @@ write_node-requires c =
       reserved = c.if-reserved-tree.false;
       nodes = c.if-nodes-tree.false;
       props = c.if-props-tree.false;
-      bytes = λ i. (c.shared_slice_known-1.given i).fits;
+      bytes = λ i. (c.type_inv.b i).fits;
     } in
-    writes-ready passes
+    writes_ready passes
 
 pub returns : goal.returns
 unfolding lent NONE passed survey_outcome capacity reservation_width node_width property_width AreBytes
@@ -77,6 +77,6 @@ returns c =
       reserved = c.if-reserved-tree.false;
       nodes = c.if-nodes-tree.false;
       props = c.if-props-tree.false;
-      bytes = λ i. (c.shared_slice_known-1.given i).fits;
+      bytes = λ i. (c.type_inv.b i).fits;
     } in
     loaded passes c.store.ensures c.write_node.ensures

@@ -1,7 +1,7 @@
 -- `measure` meets its contract: what the survey found is what a load with unlimited room answers. Assumes nothing.
 use mathlib.Core.Path.{sym, ap, ◌∙◌}
 use Rattle.survey.specs.Outcomes.{survey_outcome}
-use Rattle.loader.proofs.LoadLaws.{measured, not-measured}
+use Rattle.loader.proofs.LoadLaws.{measured, not_measured}
 use Rattle.loader.proofs.loading.measure.Goals as goal
 
 pub returns-in-Good : goal.returns-in-Good
@@ -12,4 +12,4 @@ returns-in-Good c =
 pub returns-in-Refused : goal.returns-in-Refused
 unfolding survey_outcome
 returns-in-Refused c =
-    not-measured _ _ (sym c.survey.ensures ∙ ap survey_outcome c.in-Refused.is)
+    not_measured _ _ (sym c.survey.ensures ∙ ap survey_outcome c.in-Refused.is)

@@ -1,9 +1,8 @@
 -- `store` meets its contract. The invariant: what is left to store from p on leaves what storing from pos on would have left.
 -- The measure is what is left of the blob. Assumes nothing.
-use Prim.Native.Nat.{◌+◌, ◌-◌, ◌≤◌}
-use native.Mathlib.Omega.{arith}
-use lib.ListN.{length, length-set}
-use Rattle.loader.proofs.StoreLaws.{StoreLeft, store-start, store-inside, store-room, store-last, store-again}
+use Prim.Native.Nat.{◌-◌}
+use lib.ListN.{length}
+use Rattle.loader.proofs.StoreLaws.{StoreLeft}
 use Rattle.loader.proofs.reserve.store.Given as goal
 
 abbrev pub invariant-loop-pos : goal.invariant-loop-pos

@@ -1,13 +1,9 @@
 -- `write_node` meets its contract. It is a cycle of calls of its own: the depth falls. The loop's invariant: what is left to write from
 -- p on leaves what writing the children from the first one on leaves. Each turn goes further on. Assumes nothing.
-use Prim.Native.Nat.{ℕ, ◌+◌, ◌-◌, ◌<◌}
-use native.Mathlib.Omega.{arith}
+use Prim.Native.Nat.{◌+◌, ◌-◌}
 use lib.ListN.{length}
-use Rattle.format.specs.Format.{BEGIN_NODE}
 use Rattle.survey.specs.Nodes.{block}
-use Rattle.loader.specs.Pass.{passed}
-use Rattle.loader.proofs.ChildLaws.{NodesInv, node-few, node-head, node-start, node_end, node-nodes, node-props}
-use Rattle.loader.proofs.ChildLaws.{turn_inside, child-ready, child-few, child-room, child-less, child-again}
+use Rattle.loader.proofs.ChildLaws.{NodesInv}
 use Rattle.loader.proofs.write.+write_node.Given as goal
 
 abbrev pub invariant-loop-token : goal.invariant-loop-token

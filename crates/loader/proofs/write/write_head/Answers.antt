@@ -2,16 +2,16 @@
 -- Assumes nothing.
 use borrow.Author.Rules.{rules}
 use Rattle.loader.specs.Pass.{string_length}
-use Rattle.loader.proofs.HeadLaws.{head-props, head-up, head_few, head_done}
+use Rattle.loader.proofs.HeadLaws.{head_props, head_up, head_few, head_done}
 use Rattle.loader.proofs.write.write_head.Goals as goal
 
 pub write_props-own-requires : goal.write_props-own-requires
 write_props-own-requires c =
-    head-props c.requires c.string_len-len.ensures c.aligned.ensures
+    head_props c.requires c.string_len-len.ensures c.aligned.ensures
 
 pub overflow_sub-after : goal.overflow_sub-after
 overflow_sub-after c =
-    head-up c.requires c.string_len-len.ensures c.aligned.ensures
+    head_up c.requires c.string_len-len.ensures c.aligned.ensures
     c.write_props-own.result _ c.write_props-own.ensures
 
 pub overflow_cast-after : goal.overflow_cast-after

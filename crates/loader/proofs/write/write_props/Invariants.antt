@@ -1,13 +1,9 @@
 -- `write_props` meets its contract. The loop's invariant: what is left to write from p on leaves what writing from pos on leaves.
 -- Each turn goes further on. Assumes nothing.
-use mathlib.Core.Path.{sym, ◌∙◌}
 use Prim.Native.Nat.{◌+◌, ◌-◌}
-use native.Mathlib.Omega.{arith}
 use lib.ListN.{length}
-use Rattle.format.specs.Format.{PROP}
 use Rattle.survey.specs.Nodes.{block}
-use Rattle.loader.specs.Pass.{props_state}
-use Rattle.loader.proofs.PropLaws.{PropsInv, props-start, props-ready, props-few, props-less, props-again, props-long, props-end}
+use Rattle.loader.proofs.PropLaws.{PropsInv}
 use Rattle.loader.proofs.write.write_props.Given as goal
 
 abbrev pub invariant-loop-strings : goal.invariant-loop-strings

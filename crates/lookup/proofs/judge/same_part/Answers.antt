@@ -1,5 +1,5 @@
 -- `same_part` meets its contract: the part that it lends is the definition's. Assumes nothing.
-use Rattle.std.proofs.Common.{◌≡◌, ◌+◌, ◌-◌, ◌∙◌, arith, rules}
+use Rattle.std.proofs.Common.{◌≡◌, ◌+◌, ◌-◌, ◌∙◌, arith}
 use Rattle.format.specs.Bytes.{part}
 use Rattle.lookup.proofs.judge.same_part.Goals as goal
 

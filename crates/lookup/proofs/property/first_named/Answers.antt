@@ -1,12 +1,9 @@
 -- `first_named` meets its contract: what is left of the rows gives what all of them give. Assumes nothing.
-use Rattle.std.proofs.Common.{◌≡◌, ℕ, ◌+◌, ◌-◌, ◌≤◌, true, leb, List, length, sym, refl, ◌∙◌, arith, rules, leb-true}
-use borrow.Author.Tests.{not-true, not-false}
+use Rattle.std.proofs.Common.{◌≡◌, ℕ, ◌+◌, true, leb, List, length, sym, refl, ◌∙◌, arith, leb-true}
 use Rattle.format.specs.Format.{property_width}
-use Rattle.format.specs.Rows.{properties_in}
-use Rattle.format.specs.Lookup.{among}
 use Rattle.lookup.specs.Answers.{value_outcome}
 use Rattle.lookup.specs.declared.judge.PropertyCells.{PropertyCells}
-use Rattle.lookup.proofs.PropertyLaws.{none_left, bad-name, bad-value, found_here, goes_on}
+use Rattle.lookup.proofs.PropertyLaws.{none_left, bad_name, bad_value, found_here, goes_on}
 use Rattle.lookup.proofs.property.first_named.Goals as goal
 
 pub loop-k-init : goal.loop-k-init
@@ -19,7 +16,7 @@ prop_at-prop-requires c = omega (arith, c.loop-k-test.true, c.requires)
 pub returns-then-not-lies_in : goal.returns-then-not-lies_in
 unfolding value_outcome
 returns-then-not-lies_in c n few =
-    bad-name _ _ _ _ n _ few c.loop-k-test.true _ c.prop_at-prop.ensures (sym c.lies_in.ensures ∙ c.if-not-lies_in.true)
+    bad_name _ _ _ _ n _ few c.loop-k-test.true _ c.prop_at-prop.ensures (sym c.lies_in.ensures ∙ c.if-not-lies_in.true)
     ∙ c.loop-k.invariant n few
 
 pub returns-then-not-lies_in-2 : goal.returns-then-not-lies_in-2
@@ -28,7 +25,7 @@ returns-then-not-lies_in-2 c n few =
     let blob : List ℕ = c.args.b.now in
     let prop : PropertyCells = c.prop_at-prop.result in
     let named : leb (prop.name + prop.len) (length blob) ≡ true = sym c.lies_in.ensures ∙ c.if-not-lies_in.false in
-    bad-value _ _ _ _ n _ few c.loop-k-test.true _ c.prop_at-prop.ensures named (sym c.lies_in-in-loop-k.ensures ∙ c.if-not-lies_in-2.true)
+    bad_value _ _ _ _ n _ few c.loop-k-test.true _ c.prop_at-prop.ensures named (sym c.lies_in-in-loop-k.ensures ∙ c.if-not-lies_in-2.true)
     ∙ c.loop-k.invariant n few
 
 pub same_part-requires : goal.same_part-requires

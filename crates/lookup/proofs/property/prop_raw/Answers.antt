@@ -1,24 +1,23 @@
 -- `prop_raw` meets its contract, by its four returns. Assumes nothing.
-use Rattle.std.proofs.Common.{◌≡◌, ◌+◌, ◌≤◌, true, leb, sym, ◌∙◌, arith, rules, leb-true}
-use borrow.Author.Tests.{not-true, not-false}
+use Rattle.std.proofs.Common.{◌≡◌, ◌+◌, ◌≤◌, true, leb, sym, ◌∙◌, arith, leb-true}
 use Rattle.format.specs.Format.{node_width, property_width}
 use Rattle.format.specs.Lookup.{usable}
 use Rattle.lookup.specs.Answers.{value_outcome}
 use Rattle.lookup.specs.declared.Value.TheVariants.{Unusable}
-use Rattle.lookup.proofs.Outcomes.{value-promise}
+use Rattle.lookup.proofs.Outcomes.{value_promise}
 use Rattle.lookup.proofs.PathLaws.{used}
-use Rattle.lookup.proofs.PropertyLaws.{raw-unusable, raw-many, raw-past, raw-among}
+use Rattle.lookup.proofs.PropertyLaws.{raw_unusable, raw_many, raw_past, raw_among}
 use Rattle.lookup.proofs.property.prop_raw.Goals as goal
 
 pub returns-then-not-usable : goal.returns-then-not-usable
 unfolding value_outcome
-returns-then-not-usable c = value-promise Unusable (raw-unusable _ _ _ _ _ _ _ (sym c.usable.ensures ∙ c.if-not-usable.true))
+returns-then-not-usable c = value_promise Unusable (raw_unusable _ _ _ _ _ _ _ (sym c.usable.ensures ∙ c.if-not-usable.true))
 
 pub returns-then-props-many : goal.returns-then-props-many
 unfolding value_outcome
 returns-then-props-many c =
     let there : usable c.args.nodes.now c.args.count c.args.row ≡ true = sym c.usable.ensures ∙ c.if-not-usable.false in
-    value-promise Unusable (raw-many _ _ _ _ _ _ _ there c.if-props-many.true)
+    value_promise Unusable (raw_many _ _ _ _ _ _ _ there c.if-props-many.true)
 
 pub node_at-node-requires : goal.node_at-node-requires
 unfolding node_width
@@ -30,7 +29,7 @@ pub returns-then-not-lies_in : goal.returns-then-not-lies_in
 unfolding value_outcome
 returns-then-not-lies_in c =
     let there : usable c.args.nodes.now c.args.count c.args.row ≡ true = sym c.usable.ensures ∙ c.if-not-usable.false in
-    value-promise Unusable (raw-past _ _ _ _ _ _ _ there c.if-props-many.false _ c.node_at-node.ensures (sym c.lies_in.ensures ∙ c.if-not-lies_in.true))
+    value_promise Unusable (raw_past _ _ _ _ _ _ _ there c.if-props-many.false _ c.node_at-node.ensures (sym c.lies_in.ensures ∙ c.if-not-lies_in.true))
 
 pub first_named-requires : goal.first_named-requires
 unfolding property_width
@@ -44,6 +43,6 @@ returns c =
     let there : usable c.args.nodes.now c.args.count c.args.row ≡ true = sym c.usable.ensures ∙ c.if-not-usable.false in
     let all : leb (c.node_at-node.result.first + c.node_at-node.result.count) c.args.many ≡ true = sym c.lies_in.ensures ∙ c.if-not-lies_in.false in
     let most : c.node_at-node.result.first + c.node_at-node.result.count ≤ c.args.many = leb-true _ _ all in
-    value-promise _
+    value_promise _
     (c.first_named.ensures c.args.many most
-    ∙ raw-among _ _ _ _ _ _ _ there c.if-props-many.false _ c.node_at-node.ensures all)
+    ∙ raw_among _ _ _ _ _ _ _ there c.if-props-many.false _ c.node_at-node.ensures all)

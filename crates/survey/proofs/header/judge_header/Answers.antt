@@ -4,29 +4,29 @@ use mathlib.Core.Path.{sym}
 use Rattle.format.specs.Format.{magic, version}
 use Rattle.survey.specs.Outcomes.{why_of}
 use Rattle.survey.specs.Outcomes.{header_outcome}
-use Rattle.reader.proofs.Outcomes.{word_got, word-short}
-use Rattle.survey.proofs.HeaderLaws.{Magic, Sized, Judged, no-magic, bad-magic, no_size, bad-size, no-version, bad-version, no-boot, whole}
+use Rattle.reader.proofs.Outcomes.{word_got, word_short}
+use Rattle.survey.proofs.HeaderLaws.{Magic, Sized, Judged, no_magic, bad_magic, no_size, bad_size, no_version, bad_version, no_boot, whole}
 use Rattle.survey.proofs.header.judge_header.Goals as goal
 
 pub returns-in_default : goal.returns-in_default
 unfolding header_outcome why_of
-returns-in_default c = sym (no-magic _ (word-short _ c.in_default.is c.read_be_u32.ensures))
+returns-in_default c = sym (no_magic _ (word_short _ c.in_default.is c.read_be_u32.ensures))
 
 pub returns-then-magic : goal.returns-then-magic
 unfolding header_outcome why_of magic
-returns-then-magic c = sym (bad-magic _ (word_got _ c.in-Got.is c.read_be_u32.ensures) c.if-magic.true)
+returns-then-magic c = sym (bad_magic _ (word_got _ c.in-Got.is c.read_be_u32.ensures) c.if-magic.true)
 
 pub returns-in_default-read_be_u32 : goal.returns-in_default-read_be_u32
 unfolding header_outcome why_of magic
 returns-in_default-read_be_u32 c =
     let passed-magic : Magic c.args.b.now = record { word = c.in-Got.magic; is = word_got _ c.in-Got.is c.read_be_u32.ensures; good = c.if-magic.false } in
-    sym (no_size _ passed-magic (word-short _ c.in_default-read_be_u32.is c.read_be_u32-2.ensures))
+    sym (no_size _ passed-magic (word_short _ c.in_default-read_be_u32.is c.read_be_u32-2.ensures))
 
 pub returns-then-size-b : goal.returns-then-size-b
 unfolding header_outcome why_of magic
 returns-then-size-b c =
     let passed-magic : Magic c.args.b.now = record { word = c.in-Got.magic; is = word_got _ c.in-Got.is c.read_be_u32.ensures; good = c.if-magic.false } in
-    sym (bad-size _ passed-magic (word_got _ c.in-Got-read_be_u32.is c.read_be_u32-2.ensures) c.if-size-b.true)
+    sym (bad_size _ passed-magic (word_got _ c.in-Got-read_be_u32.is c.read_be_u32-2.ensures) c.if-size-b.true)
 
 pub returns-in_default-read_be_u32-2 : goal.returns-in_default-read_be_u32-2
 unfolding header_outcome why_of magic
@@ -38,7 +38,7 @@ returns-in_default-read_be_u32-2 c =
       is = word_got _ c.in-Got-read_be_u32.is c.read_be_u32-2.ensures;
       good = c.if-size-b.false;
     } in
-    sym (no-version _ passed-size (word-short _ c.in_default-read_be_u32-2.is c.read_be_u32-3.ensures))
+    sym (no_version _ passed-size (word_short _ c.in_default-read_be_u32-2.is c.read_be_u32-3.ensures))
 
 pub returns-then-version-ne-SUPPORTED_VERSION : goal.returns-then-version-ne-SUPPORTED_VERSION
 unfolding header_outcome why_of version magic
@@ -50,7 +50,7 @@ returns-then-version-ne-SUPPORTED_VERSION c =
       is = word_got _ c.in-Got-read_be_u32.is c.read_be_u32-2.ensures;
       good = c.if-size-b.false;
     } in
-    sym (bad-version _ passed-size (word_got _ c.in-Got-read_be_u32-2.is c.read_be_u32-3.ensures) c.if-version-ne-SUPPORTED_VERSION.true)
+    sym (bad_version _ passed-size (word_got _ c.in-Got-read_be_u32-2.is c.read_be_u32-3.ensures) c.if-version-ne-SUPPORTED_VERSION.true)
 
 pub returns-in_default-read_be_u32-3 : goal.returns-in_default-read_be_u32-3
 unfolding header_outcome why_of magic version
@@ -68,7 +68,7 @@ returns-in_default-read_be_u32-3 c =
       is = word_got _ c.in-Got-read_be_u32-2.is c.read_be_u32-3.ensures;
       good = c.if-version-ne-SUPPORTED_VERSION.false;
     } in
-    sym (no-boot _ passed-version (word-short _ c.in_default-read_be_u32-3.is c.read_be_u32-4.ensures))
+    sym (no_boot _ passed-version (word_short _ c.in_default-read_be_u32-3.is c.read_be_u32-4.ensures))
 
 pub returns : goal.returns
 unfolding header_outcome magic version

@@ -1,21 +1,20 @@
 -- `check_node` meets its contract. The depth falls from call to call. The loop's invariant: what is left of the node from p on, with what
 -- is counted, gives what the whole node gives; its measure is what is left of the blob. Assumes nothing.
 use mathlib.Core.Path.{◌≡◌, sym, ap, ◌∙◌}
-use Prim.Native.Nat.{ℕ, ◌-◌, ◌<◌}
+use Prim.Native.Nat.{◌-◌}
 use native.Mathlib.Omega.{arith}
-use lib.ListN.{length}
 use Rattle.format.specs.Answer.{ok}
 use Rattle.format.specs.Bytes.{AreBytes}
 use Rattle.format.specs.Read.{read_be_u32, node_load}
-use Rattle.reader.proofs.Outcomes.{token-got, token-short}
+use Rattle.reader.proofs.Outcomes.{token_got, token_short}
 use Rattle.survey.specs.Nodes.{block, counted}
 use Rattle.survey.specs.Outcomes.{next_outcome, head_outcome, node_outcome, why_of}
-use Rattle.survey.proofs.CountLaws.{Left, NodeSpan, node-deep, node-no-head, node-head, node-spans, left-past, left-bad-child, left-child, left-bad-end, left-good}
+use Rattle.survey.proofs.CountLaws.{NodeSpan, node_deep, node_no_head, node_head, node_spans, left_past, left_bad_child, left_child, left_bad_end, left_good}
 use Rattle.survey.proofs.nodes.+check_node.Goals as goal
 
 pub returns-then-depth-eq0 : goal.returns-then-depth-eq0
 unfolding node_outcome why_of
-returns-then-depth-eq0 t c = sym (node-deep _ _ _ _ c.if-depth-eq0.true)
+returns-then-depth-eq0 t c = sym (node_deep _ _ _ _ c.if-depth-eq0.true)
 
 pub check_head-requires : goal.check_head-requires
 check_head-requires t c = c.requires
@@ -23,17 +22,17 @@ check_head-requires t c = c.requires
 pub returns-in-Refused : goal.returns-in-Refused
 unfolding head_outcome node_outcome why_of
 returns-in-Refused t c =
-    sym (node-no-head _ _ _ _ c.if-depth-eq0.false (sym c.check_head.ensures ∙ ap head_outcome c.in-Refused.is))
+    sym (node_no_head _ _ _ _ c.if-depth-eq0.false (sym c.check_head.ensures ∙ ap head_outcome c.in-Refused.is))
 
 pub loop-token-init : goal.loop-token-init
 unfolding head_outcome
 loop-token-init t c =
-    node-head _ _ _ _ c.if-depth-eq0.false (sym c.check_head.ensures ∙ ap head_outcome c.in-Good.is)
+    node_head _ _ _ _ c.if-depth-eq0.false (sym c.check_head.ensures ∙ ap head_outcome c.in-Good.is)
 
 pub returns-in_default : goal.returns-in_default
 unfolding node_outcome why_of
 returns-in_default t c =
-    sym (left-past _ _ c.loop-token.invariant (token-short _ c.in_default.is c.read.ensures))
+    sym (left_past _ _ c.loop-token.invariant (token_short _ c.in_default.is c.read.ensures))
 
 pub check_node-requires : goal.check_node-requires
 check_node-requires t c =
@@ -42,56 +41,56 @@ check_node-requires t c =
 pub overflow_add-n : goal.overflow_add-n
 unfolding AreBytes node_outcome
 overflow_add-n t c =
-    let all : AreBytes c.args.b.now = λ i. (c.shared_slice_known-1.given i).fits in
+    let all : AreBytes c.args.b.now = λ i. (c.type_inv.b i).fits in
     let isChild : let a = c.args in
     counted (node_load a.b.now (block a.strings) (a.depth - 1) c.loop-token.p) ≡ ok c.in-Good-check_node.child = sym c.check_node.ensures ∙ ap node_outcome c.in-Good-check_node.is in
-    let span : NodeSpan c.args.b.now c.loop-token.p c.in-Good-check_node.child = node-spans _ _ all _ _ isChild in
+    let span : NodeSpan c.args.b.now c.loop-token.p c.in-Good-check_node.child = node_spans _ _ all _ _ isChild in
     record { fits = omega (arith, span) }
 
 pub overflow_add-k : goal.overflow_add-k
 unfolding AreBytes node_outcome
 overflow_add-k t c =
-    let all : AreBytes c.args.b.now = λ i. (c.shared_slice_known-1.given i).fits in
+    let all : AreBytes c.args.b.now = λ i. (c.type_inv.b i).fits in
     let isChild : let a = c.args in
     counted (node_load a.b.now (block a.strings) (a.depth - 1) c.loop-token.p) ≡ ok c.in-Good-check_node.child = sym c.check_node.ensures ∙ ap node_outcome c.in-Good-check_node.is in
-    let span : NodeSpan c.args.b.now c.loop-token.p c.in-Good-check_node.child = node-spans _ _ all _ _ isChild in
+    let span : NodeSpan c.args.b.now c.loop-token.p c.in-Good-check_node.child = node_spans _ _ all _ _ isChild in
     record { fits = omega (arith, span) }
 
 pub loop-token-smaller : goal.loop-token-smaller
 unfolding AreBytes node_outcome
 loop-token-smaller t c =
-    let all : AreBytes c.args.b.now = λ i. (c.shared_slice_known-1.given i).fits in
+    let all : AreBytes c.args.b.now = λ i. (c.type_inv.b i).fits in
     let isChild : let a = c.args in
     counted (node_load a.b.now (block a.strings) (a.depth - 1) c.loop-token.p) ≡ ok c.in-Good-check_node.child = sym c.check_node.ensures ∙ ap node_outcome c.in-Good-check_node.is in
-    let span : NodeSpan c.args.b.now c.loop-token.p c.in-Good-check_node.child = node-spans _ _ all _ _ isChild in
+    let span : NodeSpan c.args.b.now c.loop-token.p c.in-Good-check_node.child = node_spans _ _ all _ _ isChild in
     omega (arith, span)
 
 pub loop-token-preserved : goal.loop-token-preserved
 unfolding AreBytes node_outcome
 loop-token-preserved t c =
-    let all : AreBytes c.args.b.now = λ i. (c.shared_slice_known-1.given i).fits in
-    let is_token : read_be_u32 c.args.b.now c.loop-token.p ≡ ok c.in-Got.token.number = token-got _ c.in-Got.is c.read.ensures in
+    let all : AreBytes c.args.b.now = λ i. (c.type_inv.b i).fits in
+    let is_token : read_be_u32 c.args.b.now c.loop-token.p ≡ ok c.in-Got.token.number = token_got _ c.in-Got.is c.read.ensures in
     let isChild : let a = c.args in
     counted (node_load a.b.now (block a.strings) (a.depth - 1) c.loop-token.p) ≡ ok c.in-Good-check_node.child = sym c.check_node.ensures ∙ ap node_outcome c.in-Good-check_node.is in
-    left-child _ _ c.loop-token.invariant is_token c.if-token-ne-BEGIN_NODE.false all isChild
+    left_child _ _ c.loop-token.invariant is_token c.if-token-ne-BEGIN_NODE.false all isChild
 
 pub returns-in-Refused-check_node : goal.returns-in-Refused-check_node
 unfolding node_outcome why_of
 returns-in-Refused-check_node t c =
-    let is_token : read_be_u32 c.args.b.now c.loop-token.p ≡ ok c.in-Got.token.number = token-got _ c.in-Got.is c.read.ensures in
+    let is_token : read_be_u32 c.args.b.now c.loop-token.p ≡ ok c.in-Got.token.number = token_got _ c.in-Got.is c.read.ensures in
     let refused = sym c.check_node.ensures ∙ ap node_outcome c.in-Refused-check_node.is in
-    sym (left-bad-child _ _ c.loop-token.invariant is_token c.if-token-ne-BEGIN_NODE.false refused)
+    sym (left_bad_child _ _ c.loop-token.invariant is_token c.if-token-ne-BEGIN_NODE.false refused)
 
 pub returns-in-At : goal.returns-in-At
 unfolding next_outcome node_outcome
 returns-in-At t c =
-    let is_token : read_be_u32 c.args.b.now c.loop-token.p ≡ ok c.in-Got.token.number = token-got _ c.in-Got.is c.read.ensures in
+    let is_token : read_be_u32 c.args.b.now c.loop-token.p ≡ ok c.in-Got.token.number = token_got _ c.in-Got.is c.read.ensures in
     let good = sym c.check_end.ensures ∙ ap next_outcome c.in-At.is in
-    sym (left-good _ _ c.loop-token.invariant is_token c.if-token-ne-BEGIN_NODE.true good)
+    sym (left_good _ _ c.loop-token.invariant is_token c.if-token-ne-BEGIN_NODE.true good)
 
 pub returns-in-Refused-check_end : goal.returns-in-Refused-check_end
 unfolding next_outcome node_outcome why_of
 returns-in-Refused-check_end t c =
-    let is_token : read_be_u32 c.args.b.now c.loop-token.p ≡ ok c.in-Got.token.number = token-got _ c.in-Got.is c.read.ensures in
+    let is_token : read_be_u32 c.args.b.now c.loop-token.p ≡ ok c.in-Got.token.number = token_got _ c.in-Got.is c.read.ensures in
     let bad = sym c.check_end.ensures ∙ ap next_outcome c.in-Refused-check_end.is in
-    sym (left-bad-end _ _ c.loop-token.invariant is_token c.if-token-ne-BEGIN_NODE.true bad)
+    sym (left_bad_end _ _ c.loop-token.invariant is_token c.if-token-ne-BEGIN_NODE.true bad)

@@ -1,16 +1,8 @@
 -- `check_node` meets its contract. The depth falls from call to call. The loop's invariant: what is left of the node from p on, with what
 -- is counted, gives what the whole node gives; its measure is what is left of the blob. Assumes nothing.
-use mathlib.Core.Path.{◌≡◌, sym, ap, ◌∙◌}
-use Prim.Native.Nat.{ℕ, ◌-◌, ◌<◌}
-use native.Mathlib.Omega.{arith}
+use Prim.Native.Nat.{◌-◌}
 use lib.ListN.{length}
-use Rattle.format.specs.Answer.{ok}
-use Rattle.format.specs.Bytes.{AreBytes}
-use Rattle.format.specs.Read.{read_be_u32, node_load}
-use Rattle.reader.proofs.Outcomes.{token-got, token-short}
-use Rattle.survey.specs.Nodes.{block, counted}
-use Rattle.survey.specs.Outcomes.{next_outcome, head_outcome, node_outcome, why_of}
-use Rattle.survey.proofs.CountLaws.{Left, NodeSpan, node-deep, node-no-head, node-head, node-spans, left-past, left-bad-child, left-child, left-bad-end, left-good}
+use Rattle.survey.proofs.CountLaws.{Left}
 use Rattle.survey.proofs.nodes.+check_node.Given as goal
 
 abbrev pub decreases-check_node : goal.decreases-check_node

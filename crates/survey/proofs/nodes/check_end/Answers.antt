@@ -3,40 +3,40 @@ use mathlib.Core.Path.{◌≡◌, sym}
 use native.Mathlib.Omega.{arith}
 use Rattle.format.specs.Answer.{ok}
 use Rattle.format.specs.Read.{read_be_u32}
-use Rattle.format.proofs.Read.{read-inside}
-use Rattle.reader.proofs.Outcomes.{token-got, token-short}
-use Rattle.utf8.proofs.Outcomes.{checked-good, checked-bad}
+use Rattle.format.proofs.Read.{read_inside}
+use Rattle.reader.proofs.Outcomes.{token_got, token_short}
+use Rattle.utf8.proofs.Outcomes.{checked_good, checked_bad}
 use Rattle.survey.specs.Outcomes.{next_outcome, why_of}
-use Rattle.survey.proofs.CountLaws.{end-past, end-other, end-bad-name, end-good}
+use Rattle.survey.proofs.CountLaws.{end_past, end_other, end_bad_name, end_good}
 use Rattle.survey.proofs.nodes.check_end.Goals as goal
 
 pub returns-in_default : goal.returns-in_default
 unfolding next_outcome why_of
-returns-in_default c = sym (end-past _ _ _ _ (token-short _ c.in_default.is c.read.ensures))
+returns-in_default c = sym (end_past _ _ _ _ (token_short _ c.in_default.is c.read.ensures))
 
 pub returns-then-token-ne-END_NODE : goal.returns-then-token-ne-END_NODE
 unfolding next_outcome why_of
 returns-then-token-ne-END_NODE c =
     let is_token : let a = c.args in
-    read_be_u32 a.b.now a.pos ≡ ok c.in-Got.token.number = token-got _ c.in-Got.is c.read.ensures in
-    sym (end-other _ _ _ _ is_token c.if-token-ne-END_NODE.true)
+    read_be_u32 a.b.now a.pos ≡ ok c.in-Got.token.number = token_got _ c.in-Got.is c.read.ensures in
+    sym (end_other _ _ _ _ is_token c.if-token-ne-END_NODE.true)
 
 pub overflow_add-result : goal.overflow_add-result
 overflow_add-result c =
     let is_token : let a = c.args in
-    read_be_u32 a.b.now a.pos ≡ ok c.in-Got.token.number = token-got _ c.in-Got.is c.read.ensures in
-    record { fits = omega (arith, read-inside _ 4 _ is_token) }
+    read_be_u32 a.b.now a.pos ≡ ok c.in-Got.token.number = token_got _ c.in-Got.is c.read.ensures in
+    record { fits = omega (arith, read_inside _ 4 _ is_token) }
 
 pub returns-in-Utf8 : goal.returns-in-Utf8
 unfolding next_outcome
 returns-in-Utf8 c =
     let is_token : let a = c.args in
-    read_be_u32 a.b.now a.pos ≡ ok c.in-Got.token.number = token-got _ c.in-Got.is c.read.ensures in
-    sym (end-good _ _ _ _ is_token c.if-token-ne-END_NODE.false (checked-good _ c.in-Utf8.is c.from_utf8.ensures))
+    read_be_u32 a.b.now a.pos ≡ ok c.in-Got.token.number = token_got _ c.in-Got.is c.read.ensures in
+    sym (end_good _ _ _ _ is_token c.if-token-ne-END_NODE.false (checked_good _ c.in-Utf8.is c.from_utf8.ensures))
 
 pub returns-in-NotUtf8 : goal.returns-in-NotUtf8
 unfolding next_outcome why_of
 returns-in-NotUtf8 c =
     let is_token : let a = c.args in
-    read_be_u32 a.b.now a.pos ≡ ok c.in-Got.token.number = token-got _ c.in-Got.is c.read.ensures in
-    sym (end-bad-name _ _ _ _ is_token c.if-token-ne-END_NODE.false (checked-bad _ c.in-NotUtf8.is c.from_utf8.ensures))
+    read_be_u32 a.b.now a.pos ≡ ok c.in-Got.token.number = token_got _ c.in-Got.is c.read.ensures in
+    sym (end_bad_name _ _ _ _ is_token c.if-token-ne-END_NODE.false (checked_bad _ c.in-NotUtf8.is c.from_utf8.ensures))
