@@ -140,10 +140,10 @@ pub fn wrong(rt: &HostRuntime, lines: &[u8], number: u64, n: Numbers) {
     text::flush(rt, &text, out);
 }
 
-// Hands out what waits, and tells where that cannot be done.
+// Hands out what waits, and tells where that cannot be done; but not of a reader that stops early.
 pub fn done(rt: &HostRuntime, text: &[u8; ROOM], out: Output) {
     let told = text::flush(rt, text, out);
-    if !told.works {
+    if !told.works && !told.gone {
         wrong(rt, b"dt\n: standard output cannot be written\n", 1, one(0));
     }
 }

@@ -3,16 +3,18 @@
 
 ghost use Rattle.std.specs.Prelude.{◌≡◌, take};
 
-use std::io::Print;
+use std::io::{Error, ErrorKind, Print};
 
 // The room for text that waits to be written.
 pub const ROOM: usize = 32768;
 
-// How many bytes of the buffer wait to be written, whether writing still works, and whether it tells what went wrong.
+// How many bytes of the buffer wait to be written, whether writing still works, whether it stopped because nobody reads any more, and
+// whether it tells what went wrong.
 #[derive(Clone, Copy)]
 pub struct Output {
     pub used: usize,
     pub works: bool,
+    pub gone: bool,
     pub wrong: bool,
 }
 
@@ -21,6 +23,7 @@ pub fn good() -> Output {
     Output {
         used: 0,
         works: true,
+        gone: false,
         wrong: false,
     }
 }
@@ -30,6 +33,7 @@ pub fn wrong() -> Output {
     Output {
         used: 0,
         works: true,
+        gone: false,
         wrong: true,
     }
 }
@@ -59,11 +63,19 @@ fn target(out: Output) -> Stream {
     Stream::Good
 }
 
-// Writes all of the bytes to a stream, and tells whether that worked. Of no bytes it makes no call.
-fn write_all(rt: &HostRuntime, to: Stream, bytes: &[u8]) -> bool {
+// Writes all of the bytes to a stream. Of no bytes it makes no call.
+fn write_all(rt: &HostRuntime, to: Stream, bytes: &[u8]) -> Result<(), Error> {
     match to {
-        Stream::Good => rt.stdout().write_all(bytes).is_ok(),
-        Stream::Wrong => rt.stderr().write_all(bytes).is_ok(),
+        Stream::Good => rt.stdout().write_all(bytes),
+        Stream::Wrong => rt.stderr().write_all(bytes),
+    }
+}
+
+// Whether what was not written has no reader any more.
+fn unread(written: &Result<(), Error>) -> bool {
+    match written {
+        Ok(_) => false,
+        Err(why) => why.kind() == ErrorKind::BrokenPipe,
     }
 }
 
@@ -73,12 +85,15 @@ pub fn flush(rt: &HostRuntime, text: &[u8; ROOM], out: Output) -> Output {
         return Output {
             used: 0,
             works: false,
+            gone: out.gone,
             wrong: out.wrong,
         };
     }
+    let written = write_all(rt, target(out), upto(text, out.used));
     Output {
         used: 0,
-        works: write_all(rt, target(out), upto(text, out.used)),
+        works: written.is_ok(),
+        gone: unread(&written),
         wrong: out.wrong,
     }
 }
@@ -91,6 +106,7 @@ pub fn byte(rt: &HostRuntime, text: &mut [u8; ROOM], out: Output, b: u8) -> Outp
         return Output {
             used: used + 1,
             works: out.works,
+            gone: out.gone,
             wrong: out.wrong,
         };
     }
@@ -99,6 +115,7 @@ pub fn byte(rt: &HostRuntime, text: &mut [u8; ROOM], out: Output, b: u8) -> Outp
     Output {
         used: 1,
         works: empty.works,
+        gone: empty.gone,
         wrong: out.wrong,
     }
 }
