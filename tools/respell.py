@@ -3,8 +3,8 @@
 
 usage: python3 tools/respell.py [--dry]     at the top, once, right after port.py
 
-Names that are declared in specs/ or in the lemma files of proofs/ and begin with a lower-case letter lose their capitals and their dashes; names in
-capitals throughout lose their dashes. What Rattle names itself (the goals of proofs/F/) stays. Where a file has both a lemma and a definition that
+Names that are declared in specs/ or in the lemma files of proofs/ and begin with a lower-case letter lose their capitals and their dashes; names that
+are or begin with a word in capitals lose their dashes. What Rattle names itself (the goals of proofs/F/) stays. Where a file has both a lemma and a definition that
 would be spelled alike, the lemma gets `_lem` at its end, as in today's library; each of those is printed. The definitions' own conditional is
 written `when .. then .. else ..`, since `if .. then .. else ..` is the library's.
 """
@@ -18,7 +18,7 @@ TOKEN = re.compile(NAME)
 
 def snake(n):
     n = n.replace("-", "_")
-    if re.fullmatch(r"[A-Z0-9_]+", n):
+    if re.match(r"[A-Z0-9_]+(_|$)", n):
         return n
     return re.sub(r"(?<=[a-z])(?=[A-Z])|(?<=[0-9])(?=[A-Z][a-z])", "_", n).lower()
 
@@ -30,7 +30,7 @@ def read(p):
 
 def declared(paths):
     found = {}
-    line = re.compile(r"(?m)^[ ]*(?:(?:pub|unfoldable|abbrev|mutual) )*(" + NAME + r"(?: " + NAME + r")*) :(?= |$)")
+    line = re.compile(r"(?m)^[ ]*(?:(?:pub|unfoldable|abbrev|mutual) )*(" + NAME + r"(?: " + NAME + r")*)(?: \{\u2113\})? :(?= |$)")
     for p in paths:
         for m in line.finditer(re.sub(r"(?m)--.*$", "", read(p))):
             for n in m.group(1).split():
@@ -48,7 +48,7 @@ def spellings():
     own = declared(lemmas)
     table = {}
     for n in own:
-        if re.match(r"[a-z]|[A-Z0-9_-]+$", n) and snake(n) != n and (re.search("[A-Z]", n) or n not in made or "specs" in str(own[n])):
+        if re.match(r"[a-z]|[A-Z0-9_-]+$|[A-Z]-", n) and snake(n) != n and (re.search("[A-Z]", n) or n not in made or "specs" in str(own[n])):
             table[n] = snake(n)
     by_new = {}
     for n, m in table.items():

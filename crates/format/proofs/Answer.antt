@@ -72,11 +72,11 @@ checked true r e = refl
 checked false r e = absurd (never e)
 
 -- which way a test went, where the whole was refused
-pub check-went {ℓ} : {B : Type 0} {C : Type ℓ} (t : Bool) (r : Refusal) (f : Unit {0} → Outcome B) {s : Refusal} → (check t r >>= f) ≡ refused s
+pub check_went {ℓ} : {B : Type 0} {C : Type ℓ} (t : Bool) (r : Refusal) (f : Unit {0} → Outcome B) {s : Refusal} → (check t r >>= f) ≡ refused s
     → (t ≡ false → r ≡ s → C) → (t ≡ true → f tt ≡ refused s → C) → C
 unfolding check ◌>>=◌
-check-went true r f e failed passed = passed refl e
-check-went false r f e failed passed = failed refl (refused_same e)
+check_went true r f e failed passed = passed refl e
+check_went false r f e failed passed = failed refl (refused_same e)
 
 -- ---- no refusal is numbered 0
 

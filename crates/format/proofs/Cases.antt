@@ -46,22 +46,22 @@ are_bytes [] e i = omega arith
 are_bytes (x ∷ l) e zero = ltb-true _ _ (both _ _ e).0
 are_bytes (x ∷ l) e (suc i) = are_bytes l (both (ltb x 256) (bytes_all l) e).1 i
 
-S-bytes : AreBytes S
+S_bytes : AreBytes S
 unfolding bytes_all S words big_endian
-S-bytes = are_bytes S refl
+S_bytes = are_bytes S refl
 
 pub record SomeTree : Type 0 where
   pub tree : Tree
   pub is : Accepted lent S tree
 
-S-answer : first (numbers tree_numbers (into.load lent S)) ≡ 0
+S_answer : first (numbers tree_numbers (into.load lent S)) ≡ 0
 unfolding cases said after_load first
-S-answer = ap (λ l. first (get_or l 0 [])) starred
+S_answer = ap (λ l. first (get_or l 0 [])) starred
 
-pub S-accepted : SomeTree
+pub S_accepted : SomeTree
 unfolding numbers
-S-accepted = go (into.load lent S) refl S-answer
+S_accepted = go (into.load lent S) refl S_answer
   where
     go : (m : Outcome Tree) → into.load lent S ≡ m → first (numbers tree_numbers m) ≡ 0 → SomeTree
-    go (ok t) e h = record { tree = t; is = (accepted lent S S-bytes t).0 e }
+    go (ok t) e h = record { tree = t; is = (accepted lent S S_bytes t).0 e }
     go (refused r) e h = absurd (refusal_not_0 r h)

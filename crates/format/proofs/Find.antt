@@ -9,7 +9,7 @@ use Rattle.format.specs.Answer.{Outcome, ok, ◌>>=◌}
 use Rattle.format.specs.Tree.{Property, Node, node, Nodes, none, ◌&◌, node_count, node_counts, Tree}
 use Rattle.format.specs.Encodes.{after_properties, after_name, after_node}
 use Rattle.format.specs.Find.{head, rest, same, Place, name_of, find_below, find_among, find_from, find, root_place, place_below, place_among, place_of}
-use Rattle.format.proofs.Tools.{if_yes, if_no, if-went}
+use Rattle.format.proofs.Tools.{if_yes, if_no, if_went}
 use Rattle.format.proofs.Answer.{never, ok_same, step}
 
 -- the place is one of the rows from `row` on, n of them, and is where `place_of` finds that row
@@ -63,7 +63,7 @@ mutual
   found_among : (ns : Nodes) (row p : ℕ) (first later : List ℕ) (place : Place) → find_among ns row p first later ≡ ok place → Stands (place_among ns row p) row (node_counts ns) place
   found_among none row p first later place e = absurd (never e)
   found_among (n & ns) row p first later place e =
-      if-went _ _ _ e
+      if_went _ _ _ e
       (λ t e. stands_first n ns row p place (found_below n row p later place e))
       (λ t e. stands_later n ns row p place (found_among ns _ _ first later place e))
 
@@ -74,7 +74,7 @@ mutual
   inside_below : (n : Node) (row p i : ℕ) (start : Place) → place_below n row p i ≡ ok start
       → (place : Place) → Stands (place_below start.here start.row start.position) start.row (node_count start.here) place → Stands (place_below n row p) row (node_count n) place
   inside_below (node name xs cs) row p i start e place s =
-      if-went _ _ _ e
+      if_went _ _ _ e
       (λ t e. subst (λ at. Stands (place_below at.here at.row at.position) at.row (node_count at.here) place) (sym (ok_same e)) s)
       (λ t e. stands_under name xs cs row p place (inside_among cs _ _ i start e place s))
 
@@ -82,7 +82,7 @@ mutual
       → (place : Place) → Stands (place_below start.here start.row start.position) start.row (node_count start.here) place → Stands (place_among ns row p) row (node_counts ns) place
   inside_among none row p i start e place s = absurd (never e)
   inside_among (n & ns) row p i start e place s =
-      if-went _ _ _ e
+      if_went _ _ _ e
       (λ t e. stands_first n ns row p place (inside_below n row p i start e place s))
       (λ t e. stands_later n ns row p place (inside_among ns _ _ i start e place s))
 

@@ -9,15 +9,15 @@ use Rattle.format.specs.Rows.{PropertyRow, property_at, properties_in}
 use Rattle.format.specs.Find.{as_string}
 use Rattle.format.specs.Lookup.{Lent, bytes_of, parts_inside, value_span, among, property_of, prop_raw, prop_str}
 use Rattle.format.specs.Agrees.{bytes_in}
-use Rattle.format.proofs.Tools.{both, if-went}
+use Rattle.format.proofs.Tools.{both, if_went}
 use Rattle.format.proofs.Answer.{never, ok_same, step}
 
 among_inside : (b : List ℕ) (P : List PropertyRow) (n k : ℕ) (name : List ℕ) (s : Span) → among b P n k name ≡ ok s → s.offset + s.size ≤ length b
 unfolding among parts_inside value_span
 among_inside b P zero k name s e = absurd (never e)
 among_inside b P (suc n) k name s e =
-    if-went _ _ _ e
-    (λ inside e. if-went _ _ _ e
+    if_went _ _ _ e
+    (λ inside e. if_went _ _ _ e
     (λ _ e. let is = ok_same e in rw (← is) (leb-true _ _ (both (leb ((property_at P k).name_offset + (property_at P k).name_length) (length b)) (leb ((property_at P k).value_offset + (property_at P k).value_length) (length b)) inside).1))
     (λ _ e. among_inside b P n (k + 1) name s e))
     (λ _ e. absurd (never e))

@@ -12,7 +12,7 @@ use Rattle.format.specs.Tree.{Tree}
 use Rattle.format.specs.Rules.{ours}
 use Rattle.format.specs.Load.{Tables, tree_numbers, capacity, room, load, tables_after, Loads, Measures, Accepted, NoRoom, reservations, nodes, properties}
 use Rattle.format.specs.Read as read
-use Rattle.format.proofs.Answer.{never, ok_same, step, then_ok, then_refused, checked, check_ok, check_no, check-went}
+use Rattle.format.proofs.Answer.{never, ok_same, step, then_ok, then_refused, checked, check_ok, check_no, check_went}
 use Rattle.format.proofs.Sound.{sound}
 use Rattle.format.proofs.Complete.{complete}
 
@@ -52,13 +52,13 @@ pub record Roomless (lent : Tables) (b : List ℕ) (r : Refusal) : Type 0 where
 room_refuses : (lent : Tables) (t : Tree) (r : Refusal) → room lent t ≡ refused r → NoRoom lent t r
 unfolding room
 room_refuses lent t r e =
-    check-went _ _ _ e
+    check_went _ _ _ e
     (λ full same. subst (NoRoom lent t) same (reservations (leb-false _ _ full)))
     λ r-fits e.
-    check-went _ _ _ e
+    check_went _ _ _ e
     (λ full same. subst (NoRoom lent t) same (nodes (leb-true _ _ r-fits) (leb-false _ _ full)))
     λ n-fits e.
-    check-went _ _ _ e
+    check_went _ _ _ e
     (λ full same. subst (NoRoom lent t) same (properties (leb-true _ _ r-fits) (leb-true _ _ n-fits) (leb-false _ _ full)))
     λ _ e. absurd (never (sym e))
 

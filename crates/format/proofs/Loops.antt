@@ -9,7 +9,7 @@ use Rattle.format.specs.Answer.{Outcome, ok, refused, unexpected_end_of_input, �
 use Rattle.format.specs.Tree.{Property, Node, Nodes, none, ◌&◌, Reservation}
 use Rattle.format.specs.Encodes.{Block}
 use Rattle.format.specs.Read.{read_be_u32, Read, property, properties, nodes, node_load, reservation, reservations}
-use Rattle.format.proofs.Tools.{if-went, if_same}
+use Rattle.format.proofs.Tools.{if_went, if_same}
 use Rattle.format.proofs.Answer.{never, ok_same, step, then_refused, then_same}
 use Rattle.format.proofs.Bytes.{align_up}
 use Rattle.format.proofs.Read.{read_past_end}
@@ -54,7 +54,7 @@ module _ (b : List ℕ) where
     properties_move zero p xs e = absurd (never e)
     properties_move (suc f) p xs e =
         step _ _ e λ token _ e.
-        if-went _ _ _ e
+        if_went _ _ _ e
         (λ t e.
         step _ _ e λ x hx e.
         step _ _ e λ rest hrest e.
@@ -82,7 +82,7 @@ module _ (b : List ℕ) where
     nodes_move zero p ns e = absurd (never e)
     nodes_move (suc f) p ns e =
         step _ _ e λ token _ e.
-        if-went _ _ _ e
+        if_went _ _ _ e
         (λ t e.
         step _ _ e λ n hn e.
         step _ _ e λ rest hrest e.

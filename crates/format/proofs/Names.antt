@@ -16,7 +16,7 @@ use Rattle.format.specs.Load.{Tables, tables_after, Accepted}
 use Rattle.format.specs.Find as tree
 use Rattle.format.specs.Lookup as table
 use Rattle.format.specs.Agrees.{row_of, bytes_in, used}
-use Rattle.format.proofs.Tools.{both, never_both, tested, if_yes, if_no, if-went}
+use Rattle.format.proofs.Tools.{both, never_both, tested, if_yes, if_no, if_went}
 use Rattle.format.proofs.Answer.{never, ok_same, step}
 use Rattle.format.proofs.Utf8.{utf8_exact}
 use Rattle.format.proofs.Tables.{lookups_as_the_tree, find_as_the_tree}
@@ -81,7 +81,7 @@ mutual
   among_utf8 : (ns : Nodes) (row p : ℕ) (first later : List ℕ) (place : Place) → GoodNodes ns → find_among ns row p first later ≡ ok place → Utf8 first × Utf8 later
   among_utf8 none row p first later place good e = absurd (never e)
   among_utf8 (n & ns) row p first later place good e =
-      if-went _ _ _ e
+      if_went _ _ _ e
       (λ t e. (subst Utf8 (same_is (name_of n) first t) (good_name n good.0), found_utf8 n row p later place good.0 e))
       (λ t e. among_utf8 ns _ _ first later place good.1 e)
 
@@ -90,7 +90,7 @@ slash_utf8 : (path below : List ℕ) → after_slash path ≡ ok below → Utf8 
 unfolding after_slash SLASH
 slash_utf8 [] below e u = absurd (never e)
 slash_utf8 (c ∷ path) below e u =
-    if-went _ _ _ e
+    if_went _ _ _ e
     (λ is same. let ascii : c ≡ 0x2f = eqb-true c 0x2f is in utf8_1 (omega arith) (subst Utf8 (sym (ok_same same)) u))
     (λ _ e. absurd (never e))
 
@@ -137,7 +137,7 @@ name_utf8 : (xs : List Property) (name value : List ℕ) → GoodProperties xs �
 unfolding first_named GoodProperties
 name_utf8 [] name value good e = absurd (never e)
 name_utf8 (x ∷ xs) name value good e =
-    if-went _ _ _ e
+    if_went _ _ _ e
     (λ t e. subst Utf8 (same_is x.name name t) good.0.utf8)
     (λ t e. name_utf8 xs name value good.1 e)
 
@@ -168,14 +168,14 @@ mutual
 
   place_good : (n : Node) (row p i : ℕ) (start : Place) → GoodNode n → place_below n row p i ≡ ok start → GoodNode start.here
   place_good (node name xs cs) row p i start good e =
-      if-went _ _ _ e
+      if_went _ _ _ e
       (λ t e. subst (λ (at : Place). GoodNode at.here) (ok_same e) good)
       (λ t e. among_good cs _ _ i start good.2 e)
 
   among_good : (ns : Nodes) (row p i : ℕ) (start : Place) → GoodNodes ns → place_among ns row p i ≡ ok start → GoodNode start.here
   among_good none row p i start good e = absurd (never e)
   among_good (n & ns) row p i start good e =
-      if-went _ _ _ e
+      if_went _ _ _ e
       (λ t e. place_good n row p i start good.0 e)
       (λ t e. among_good ns _ _ i start good.1 e)
 

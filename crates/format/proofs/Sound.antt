@@ -11,7 +11,7 @@ use Rattle.format.specs.Tree.{Property, Node, node, Nodes, ◌&◌, Reservation,
 use Rattle.format.specs.Rules.{Rules}
 use Rattle.format.specs.Encodes.{GoodName, GoodProperties, GoodNode, GoodNodes, LastEnds, Block, PropertyAt, after_property, after_properties, after_name, after_node, after_nodes, PropertiesAt, NodeAt, NodesAt, ReservationAt, ReservationsAt, Encodes}
 use Rattle.format.specs.Read.{Read, property, properties, nodes, node_load, reservation, reservations, Header, header, body, load_within}
-use Rattle.format.proofs.Tools.{if-went}
+use Rattle.format.proofs.Tools.{if_went}
 use Rattle.format.proofs.Answer.{never, ok_same, step, checked}
 use Rattle.format.proofs.Utf8.{utf8_exact}
 use Rattle.format.proofs.Read.{word_read, long_read, string_read, part_read}
@@ -62,7 +62,7 @@ module _ (b : List ℕ) (all : AreBytes b) (strings : Block) where
   properties_sound zero p r e = absurd (never e)
   properties_sound (suc fuel) p r e =
       step _ _ e λ token htoken e.
-      if-went _ _ _ e
+      if_went _ _ _ e
       (λ t e.
       step _ _ e λ x hx e.
       step _ _ e λ xs hxs e.
@@ -101,7 +101,7 @@ module _ (b : List ℕ) (all : AreBytes b) (strings : Block) where
     nodes_sound zero p r e = absurd (never e)
     nodes_sound (suc fuel) p r e =
         step _ _ e λ token htoken e.
-        if-went _ _ _ e
+        if_went _ _ _ e
         (λ t e.
         step _ _ e λ n hn e.
         step _ _ e λ ns hns e.
@@ -166,7 +166,7 @@ module _ (b : List ℕ) (all : AreBytes b) where
   reservations_sound is_last zero p rs e = absurd (never e)
   reservations_sound is_last (suc fuel) p rs e =
       step _ _ e λ r hr e.
-      if-went _ _ _ e
+      if_went _ _ _ e
       (λ t e. subst (ReservationsRead is_last p) (ok_same e) (record { last = t; at = (reservation_sound p r hr, tt) }))
       (λ t e.
       step _ _ e λ rest hrest e.

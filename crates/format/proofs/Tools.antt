@@ -31,11 +31,11 @@ unfolding when◌then◌else◌
 if_no x y e = rw (e, when◌then◌else◌)
 
 -- which way it went
-pub if-went {ℓ} : {A : Type 0} {C : Type ℓ} (t : Bool) (x y : A) {r : A} → (when t then x else y) ≡ r
+pub if_went {ℓ} : {A : Type 0} {C : Type ℓ} (t : Bool) (x y : A) {r : A} → (when t then x else y) ≡ r
     → (t ≡ true → x ≡ r → C) → (t ≡ false → y ≡ r → C) → C
 unfolding when◌then◌else◌
-if-went true x y e f g = f refl e
-if-went false x y e f g = g refl e
+if_went true x y e f g = f refl e
+if_went false x y e f g = g refl e
 
 pub if_same : {A : Type 0} (t : Bool) (x x' y y' : A) → x ≡ x' → y ≡ y' → (when t then x else y) ≡ (when t then x' else y')
 if_same t x x' y y' e k = rw (e, k)

@@ -15,7 +15,7 @@ use Rattle.format.specs.Tree.{Reservation}
 use Rattle.format.specs.Rules.{size_zero}
 use Rattle.format.specs.Read.{read_be_u64, reservation}
 use Rattle.format.specs.Rows.{reservation_numbers}
-use Rattle.format.proofs.Tools.{if-went}
+use Rattle.format.proofs.Tools.{if_went}
 use Rattle.format.proofs.Answer.{ok_same, step}
 use Rattle.format.proofs.Read.{read_inside}
 use Rattle.reader.proofs.Outcomes.{or_zero_lem}
@@ -52,7 +52,7 @@ module _ (b : List ℕ) where
       → (when size_zero first then ok (first ∷ []) else (listed b (p + 16) >>= λ rest. ok (first ∷ rest))) ≡ ok rs → Later b p first rs
   unfolding size_zero
   later p first rs e =
-      if-went _ _ _ e
+      if_went _ _ _ e
       (λ t e. record { later = []; is = sym (ok_same e); ends = λ _. refl; goes = λ n. absurd (n (eqb-true _ _ t)) })
       (λ t e. step _ _ e λ rest is_rest e. record { later = rest; is = sym (ok_same e); ends = λ z. absurd (eqb-false _ _ t z); goes = λ _. is_rest })
 

@@ -21,7 +21,7 @@ use Rattle.format.proofs.Bytes.{align_up}
 use Rattle.format.proofs.Complete.{node_up}
 use Rattle.format.proofs.Sound.{node_sound}
 use Rattle.format.proofs.Sizes.{node_span, node_inside}
-use Rattle.format.proofs.Tools.{if_yes, if_no, if-went}
+use Rattle.format.proofs.Tools.{if_yes, if_no, if_went}
 use Rattle.format.proofs.Read.{part_read}
 use Rattle.format.proofs.Loops.{property_moves_lem, properties_turn, nodes_turn}
 use Rattle.format.proofs.Turns.{next_of}
@@ -250,7 +250,7 @@ module _ (b : List ℕ) (strings : Block) where
   properties_rows zero p xs e = absurd (never e)
   properties_rows (suc fuel) p xs e =
       step _ _ e λ token _ e.
-      if-went _ _ _ e
+      if_went _ _ _ e
       (λ t e.
       step _ _ e λ x hx e.
       step _ _ e λ rest hrest e.
