@@ -9,7 +9,7 @@ use mathlib.Core.Bool.{true}
 use lib.ListN.{length}
 use lib.Dec.{eqb}
 use borrow.Author.Tests.{eqb-true, eq-eqb, ne_eqb}
-use Rattle.format.specs.Answer.{Refusal, invalid_magic_number, size_mismatch, version_not_supported, Outcome, ok, refused, ◌>>=◌, check, or_zero}
+use Rattle.format.specs.Answer.{Refusal, invalid_magic_number, size_mismatch, version_not_supported, Outcome, ok, refused, ◌>>=◌, check, or_zero, numbers, itself}
 use Rattle.format.specs.Bytes.{AreBytes}
 use Rattle.format.specs.Format.{magic, version, magic_at, total_size_at, structure_at, strings_at, reservations_at, version_at, boot_cpu_at}
 use Rattle.format.specs.Read.{read_be_u32}
@@ -17,6 +17,9 @@ use Rattle.format.specs.Read as read
 use Rattle.format.proofs.Answer.{ok_same, step, then_ok, then_refused, checked, check_ok, check_no}
 use Rattle.format.proofs.Bytes.{value_small}
 use Rattle.format.proofs.Read.{read_there, read_inside}
+use Rattle.reader.specs.declared.Word.TheVariants.{Got}
+use Rattle.reader.specs.Numbers.{word_numbers}
+use Rattle.reader.proofs.Outcomes.{word_got}
 use Rattle.reader.proofs.Numbers.{word_total}
 use Rattle.survey.specs.Survey.{header_of}
 use Rattle.survey.specs.declared.header.Header.{Header}
@@ -38,6 +41,18 @@ pub record Judged (b : List ℕ) : Type 0 where
   pub word : ℕ
   pub is : read_be_u32 b version_at ≡ ok word
   pub good : word ≡ version
+
+-- what has passed, by the readers' answers and the tests: the magic number, then the size too, then the version too
+module _ {b : List ℕ} {m : ℕ} (is_magic : word_numbers (Got m) ≡ numbers itself (read_be_u32 b magic_at)) (good : m ≡ magic) where
+  pub magic_passed : Magic b
+  magic_passed = record { word = m; is = word_got _ refl is_magic; good = good }
+
+  module _ {s : ℕ} (is_size : word_numbers (Got s) ≡ numbers itself (read_be_u32 b total_size_at)) (same : s ≡ length b) where
+    pub size_passed : Sized b
+    size_passed = record { before = magic_passed; word = s; is = word_got _ refl is_size; good = same }
+
+    pub version_passed : {v : ℕ} → word_numbers (Got v) ≡ numbers itself (read_be_u32 b version_at) → v ≡ version → Judged b
+    version_passed {v} e k = record { before = size_passed; word = v; is = word_got _ refl e; good = k }
 
 -- what is left once the size has passed
 after_size : List ℕ → Outcome read.Header
