@@ -11,52 +11,35 @@ use Rattle.survey.specs.Reserve.{scan_from}
 use Rattle.survey.specs.Survey.{header_of, names_of}
 use Rattle.survey.specs.Outcomes.{header_outcome, survey_outcome}
 use Rattle.survey.proofs.HeaderLaws.{Fits, header_fits}
-use Rattle.survey.proofs.SurveyLaws.{no_header, no_list, no_root, end_after, whole}
+use Rattle.survey.proofs.SurveyLaws.{scan_ready, names_small, no_header, no_list, no_root, end_after, whole}
 use Rattle.survey.proofs.survey.Goals as goal
 
 pub returns-in-Refused : goal.returns-in-Refused
 unfolding survey_outcome header_outcome
-returns-in-Refused c = sym (no_header _ (sym c.judge_header.ensures ∙ ap header_outcome c.in-Refused.is))
+returns-in-Refused c = sym (no_header _ (sym c.in-Refused.ensures))
 
 pub scan-requires : goal.scan-requires
-unfolding AreBytes header_outcome
-scan-requires c =
-    let bytes : AreBytes c.args.b.now = λ i. (c.type_inv.b i).fits in
-    let isHeader : header_of c.args.b.now ≡ ok c.in-Good.header = sym c.judge_header.ensures ∙ ap header_outcome c.in-Good.is in
-    let fits : Fits c.args.b.now c.in-Good.header = header_fits _ _ bytes isHeader in
-    let f = fits in record { blob = f.blob; start = f.reservations }
+unfolding header_outcome
+scan-requires c = scan_ready (λ i. (c.type_inv.b i).fits) (sym c.in-Good.ensures)
 
 pub returns-in-Refused-scan : goal.returns-in-Refused-scan
 unfolding survey_outcome next_outcome header_outcome
-returns-in-Refused-scan c =
-    let isHeader : header_of c.args.b.now ≡ ok c.in-Good.header = sym c.judge_header.ensures ∙ ap header_outcome c.in-Good.is in
-    sym (no_list _ _ isHeader (sym c.scan.ensures ∙ ap next_outcome c.in-Refused-scan.is))
+returns-in-Refused-scan c = sym (no_list _ _ (sym c.in-Good.ensures) (sym c.in-Refused-scan.ensures))
 
 pub check_node-requires : goal.check_node-requires
-unfolding AreBytes header_outcome
-check_node-requires c =
-    let bytes : AreBytes c.args.b.now = λ i. (c.type_inv.b i).fits in
-    let isHeader : header_of c.args.b.now ≡ ok c.in-Good.header = sym c.judge_header.ensures ∙ ap header_outcome c.in-Good.is in
-    let fits : Fits c.args.b.now c.in-Good.header = header_fits _ _ bytes isHeader in
-    let f = fits in record { blob = f.blob; start = f.strings; end = omega arith }
+unfolding header_outcome
+check_node-requires c = names_small (λ i. (c.type_inv.b i).fits) (sym c.in-Good.ensures)
 
 pub overflow_sub-result : goal.overflow_sub-result
 unfolding header_outcome next_outcome
-overflow_sub-result c =
-    let isHeader : header_of c.args.b.now ≡ ok c.in-Good.header = sym c.judge_header.ensures ∙ ap header_outcome c.in-Good.is in
-    let isEnd : scan_from c.args.b.now c.in-Good.header.reservations ≡ ok c.in-At.end = sym c.scan.ensures ∙ ap next_outcome c.in-At.is in
-    end_after _ _ isHeader _ isEnd
+overflow_sub-result c = end_after _ _ (sym c.in-Good.ensures) _ (sym c.in-At.ensures)
 
 pub returns-in-Refused-check_node : goal.returns-in-Refused-check_node
 unfolding survey_outcome node_outcome names_of ours header_outcome next_outcome
 returns-in-Refused-check_node c =
-    let isHeader : header_of c.args.b.now ≡ ok c.in-Good.header = sym c.judge_header.ensures ∙ ap header_outcome c.in-Good.is in
-    let isEnd : scan_from c.args.b.now c.in-Good.header.reservations ≡ ok c.in-At.end = sym c.scan.ensures ∙ ap next_outcome c.in-At.is in
-    sym (no_root _ _ isHeader _ isEnd (sym c.check_node.ensures ∙ ap node_outcome c.in-Refused-check_node.is))
+    sym (no_root _ _ (sym c.in-Good.ensures) _ (sym c.in-At.ensures) (sym c.in-Refused-check_node.ensures))
 
 pub returns-in-Good-check_node : goal.returns-in-Good-check_node
 unfolding survey_outcome node_outcome names_of ours version header_outcome next_outcome
 returns-in-Good-check_node c =
-    let isHeader : header_of c.args.b.now ≡ ok c.in-Good.header = sym c.judge_header.ensures ∙ ap header_outcome c.in-Good.is in
-    let isEnd : scan_from c.args.b.now c.in-Good.header.reservations ≡ ok c.in-At.end = sym c.scan.ensures ∙ ap next_outcome c.in-At.is in
-    sym (whole _ _ isHeader _ isEnd _ (sym c.check_node.ensures ∙ ap node_outcome c.in-Good-check_node.is))
+    sym (whole _ _ (sym c.in-Good.ensures) _ (sym c.in-At.ensures) _ (sym c.in-Good-check_node.ensures))
