@@ -9,7 +9,7 @@ use Rattle.format.specs.Read.{read_be_u32, node_load}
 use Rattle.reader.proofs.Outcomes.{token_got, token_short}
 use Rattle.survey.specs.Nodes.{block, counted}
 use Rattle.survey.specs.Outcomes.{next_outcome, head_outcome, node_outcome, why_of}
-use Rattle.survey.proofs.CountLaws.{NodeSpan, node_deep, node_no_head, node_head, node_spans, left_past, left_bad_child, left_child, left_bad_end, left_good}
+use Rattle.survey.proofs.CountLaws.{token_read, node_deep, node_no_head, node_head, node_spans, left_past, left_bad_child, left_child, left_bad_end, left_good}
 use Rattle.survey.proofs.nodes.+check_node.Goals as goal
 
 pub returns-then-depth-eq0 : goal.returns-then-depth-eq0
@@ -21,13 +21,11 @@ check_head-requires t c = c.requires
 
 pub returns-in-Refused : goal.returns-in-Refused
 unfolding head_outcome node_outcome why_of
-returns-in-Refused t c =
-    sym (node_no_head _ _ _ _ c.if-depth-eq0.false (sym c.check_head.ensures ∙ ap head_outcome c.in-Refused.is))
+returns-in-Refused t c = sym (node_no_head _ _ _ _ c.if-depth-eq0.false (sym c.in-Refused.ensures))
 
 pub loop-token-init : goal.loop-token-init
 unfolding head_outcome
-loop-token-init t c =
-    node_head _ _ _ _ c.if-depth-eq0.false (sym c.check_head.ensures ∙ ap head_outcome c.in-Good.is)
+loop-token-init t c = node_head _ _ _ _ c.if-depth-eq0.false (sym c.in-Good.ensures)
 
 pub returns-in_default : goal.returns-in_default
 unfolding node_outcome why_of
@@ -40,57 +38,35 @@ check_node-requires t c =
 
 pub overflow_add-n : goal.overflow_add-n
 unfolding AreBytes node_outcome
-overflow_add-n t c =
-    let all : AreBytes c.args.b.now = λ i. (c.type_inv.b i).fits in
-    let isChild : let a = c.args in
-    counted (node_load a.b.now (block a.strings) (a.depth - 1) c.loop-token.p) ≡ ok c.in-Good-check_node.child = sym c.check_node.ensures ∙ ap node_outcome c.in-Good-check_node.is in
-    let span : NodeSpan c.args.b.now c.loop-token.p c.in-Good-check_node.child = node_spans _ _ all _ _ isChild in
-    record { fits = omega (arith, span) }
+overflow_add-n t c = record { fits = omega (arith, node_spans _ _ (λ i. (c.type_inv.b i).fits) _ _ (sym c.in-Good-check_node.ensures)) }
 
 pub overflow_add-k : goal.overflow_add-k
 unfolding AreBytes node_outcome
-overflow_add-k t c =
-    let all : AreBytes c.args.b.now = λ i. (c.type_inv.b i).fits in
-    let isChild : let a = c.args in
-    counted (node_load a.b.now (block a.strings) (a.depth - 1) c.loop-token.p) ≡ ok c.in-Good-check_node.child = sym c.check_node.ensures ∙ ap node_outcome c.in-Good-check_node.is in
-    let span : NodeSpan c.args.b.now c.loop-token.p c.in-Good-check_node.child = node_spans _ _ all _ _ isChild in
-    record { fits = omega (arith, span) }
+overflow_add-k t c = record { fits = omega (arith, node_spans _ _ (λ i. (c.type_inv.b i).fits) _ _ (sym c.in-Good-check_node.ensures)) }
 
 pub loop-token-smaller : goal.loop-token-smaller
 unfolding AreBytes node_outcome
-loop-token-smaller t c =
-    let all : AreBytes c.args.b.now = λ i. (c.type_inv.b i).fits in
-    let isChild : let a = c.args in
-    counted (node_load a.b.now (block a.strings) (a.depth - 1) c.loop-token.p) ≡ ok c.in-Good-check_node.child = sym c.check_node.ensures ∙ ap node_outcome c.in-Good-check_node.is in
-    let span : NodeSpan c.args.b.now c.loop-token.p c.in-Good-check_node.child = node_spans _ _ all _ _ isChild in
-    omega (arith, span)
+loop-token-smaller t c = omega (arith, node_spans _ _ (λ i. (c.type_inv.b i).fits) _ _ (sym c.in-Good-check_node.ensures))
 
 pub loop-token-preserved : goal.loop-token-preserved
 unfolding AreBytes node_outcome
 loop-token-preserved t c =
-    let all : AreBytes c.args.b.now = λ i. (c.type_inv.b i).fits in
-    let is_token : read_be_u32 c.args.b.now c.loop-token.p ≡ ok c.in-Got.token.number = token_got _ c.in-Got.is c.read.ensures in
-    let isChild : let a = c.args in
-    counted (node_load a.b.now (block a.strings) (a.depth - 1) c.loop-token.p) ≡ ok c.in-Good-check_node.child = sym c.check_node.ensures ∙ ap node_outcome c.in-Good-check_node.is in
-    left_child _ _ c.loop-token.invariant is_token c.if-token-ne-BEGIN_NODE.false all isChild
+    left_child _ _ c.loop-token.invariant (token_read c.in-Got.ensures) c.if-token-ne-BEGIN_NODE.false
+    (λ i. (c.type_inv.b i).fits) (sym c.in-Good-check_node.ensures)
 
 pub returns-in-Refused-check_node : goal.returns-in-Refused-check_node
 unfolding node_outcome why_of
 returns-in-Refused-check_node t c =
-    let is_token : read_be_u32 c.args.b.now c.loop-token.p ≡ ok c.in-Got.token.number = token_got _ c.in-Got.is c.read.ensures in
-    let refused = sym c.check_node.ensures ∙ ap node_outcome c.in-Refused-check_node.is in
-    sym (left_bad_child _ _ c.loop-token.invariant is_token c.if-token-ne-BEGIN_NODE.false refused)
+    sym (left_bad_child _ _ c.loop-token.invariant (token_read c.in-Got.ensures) c.if-token-ne-BEGIN_NODE.false
+    (sym c.in-Refused-check_node.ensures))
 
 pub returns-in-At : goal.returns-in-At
 unfolding next_outcome node_outcome
 returns-in-At t c =
-    let is_token : read_be_u32 c.args.b.now c.loop-token.p ≡ ok c.in-Got.token.number = token_got _ c.in-Got.is c.read.ensures in
-    let good = sym c.check_end.ensures ∙ ap next_outcome c.in-At.is in
-    sym (left_good _ _ c.loop-token.invariant is_token c.if-token-ne-BEGIN_NODE.true good)
+    sym (left_good _ _ c.loop-token.invariant (token_read c.in-Got.ensures) c.if-token-ne-BEGIN_NODE.true (sym c.in-At.ensures))
 
 pub returns-in-Refused-check_end : goal.returns-in-Refused-check_end
 unfolding next_outcome node_outcome why_of
 returns-in-Refused-check_end t c =
-    let is_token : read_be_u32 c.args.b.now c.loop-token.p ≡ ok c.in-Got.token.number = token_got _ c.in-Got.is c.read.ensures in
-    let bad = sym c.check_end.ensures ∙ ap next_outcome c.in-Refused-check_end.is in
-    sym (left_bad_end _ _ c.loop-token.invariant is_token c.if-token-ne-BEGIN_NODE.true bad)
+    sym (left_bad_end _ _ c.loop-token.invariant (token_read c.in-Got.ensures) c.if-token-ne-BEGIN_NODE.true
+    (sym c.in-Refused-check_end.ensures))

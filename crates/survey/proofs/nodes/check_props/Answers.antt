@@ -10,7 +10,7 @@ use Rattle.format.proofs.Turns.{next_of, property_moves}
 use Rattle.reader.proofs.Outcomes.{token_got, token_short}
 use Rattle.survey.specs.Nodes.{block}
 use Rattle.survey.specs.Outcomes.{next_outcome, props_outcome, why_of}
-use Rattle.survey.proofs.CountLaws.{from_start, from_past, from_stop, from_bad, from_good}
+use Rattle.survey.proofs.CountLaws.{token_read, from_start, from_past, from_stop, from_bad, from_good}
 use Rattle.survey.proofs.nodes.check_props.Goals as goal
 
 pub loop-token-init : goal.loop-token-init
@@ -24,39 +24,25 @@ returns-in_default c =
 pub returns-then-token-ne-PROP : goal.returns-then-token-ne-PROP
 unfolding props_outcome
 returns-then-token-ne-PROP c =
-    let is_token : read_be_u32 c.args.b.now c.loop-token.p ≡ ok c.in-Got.token.number = token_got _ c.in-Got.is c.read.ensures in
-    sym (c.loop-token.invariant.0 ∙ from_stop _ _ _ _ is_token c.if-token-ne-PROP.true)
+    sym (c.loop-token.invariant.0 ∙ from_stop _ _ _ _ (token_read c.in-Got.ensures) c.if-token-ne-PROP.true)
 
 pub check_prop-requires : goal.check_prop-requires
-check_prop-requires c =
-    let is_token : read_be_u32 c.args.b.now c.loop-token.p ≡ ok c.in-Got.token.number = token_got _ c.in-Got.is c.read.ensures in
-    (c.requires, read_inside _ 4 _ is_token)
+check_prop-requires c = (c.requires, read_inside _ 4 _ (token_read c.in-Got.ensures))
 
 pub returns-in-Refused : goal.returns-in-Refused
 unfolding next_outcome props_outcome why_of
 returns-in-Refused c =
-    let is_token : read_be_u32 c.args.b.now c.loop-token.p ≡ ok c.in-Got.token.number = token_got _ c.in-Got.is c.read.ensures in
-    let refused = sym c.check_prop.ensures ∙ ap next_outcome c.in-Refused.is in
-    sym (c.loop-token.invariant.0 ∙ from_bad _ _ _ _ is_token c.if-token-ne-PROP.false refused)
+    sym (c.loop-token.invariant.0 ∙ from_bad _ _ _ _ (token_read c.in-Got.ensures) c.if-token-ne-PROP.false (sym c.in-Refused.ensures))
 
 pub overflow_add-n : goal.overflow_add-n
-overflow_add-n c =
-    let is_token : read_be_u32 c.args.b.now c.loop-token.p ≡ ok c.in-Got.token.number = token_got _ c.in-Got.is c.read.ensures in
-    record { fits = omega (arith, read_inside _ 4 _ is_token) }
+overflow_add-n c = record { fits = omega (arith, read_inside _ 4 _ (token_read c.in-Got.ensures)) }
 
 pub loop-token-smaller : goal.loop-token-smaller
 unfolding next_outcome
-loop-token-smaller c =
-    let is_token : read_be_u32 c.args.b.now c.loop-token.p ≡ ok c.in-Got.token.number = token_got _ c.in-Got.is c.read.ensures in
-    let is_next : let a = c.args in
-    next_of (property a.b.now (block a.strings) c.loop-token.p) ≡ ok c.in-At.q = sym c.check_prop.ensures ∙ ap next_outcome c.in-At.is in
-    omega (arith, read_inside _ 4 _ is_token, property_moves _ _ _ _ is_next)
+loop-token-smaller c = omega (arith, read_inside _ 4 _ (token_read c.in-Got.ensures), property_moves _ _ _ _ (sym c.in-At.ensures))
 
 pub loop-token-preserved : goal.loop-token-preserved
 unfolding next_outcome
 loop-token-preserved c =
-    let is_token : read_be_u32 c.args.b.now c.loop-token.p ≡ ok c.in-Got.token.number = token_got _ c.in-Got.is c.read.ensures in
-    let is_next : let a = c.args in
-    next_of (property a.b.now (block a.strings) c.loop-token.p) ≡ ok c.in-At.q = sym c.check_prop.ensures ∙ ap next_outcome c.in-At.is in
     let inv = c.loop-token.invariant in
-    (inv.0 ∙ from_good _ _ _ _ is_token c.if-token-ne-PROP.false is_next, omega (arith, inv.1, property_moves _ _ _ _ is_next))
+    (inv.0 ∙ from_good _ _ _ _ (token_read c.in-Got.ensures) c.if-token-ne-PROP.false (sym c.in-At.ensures), omega (arith, inv.1, property_moves _ _ _ _ (sym c.in-At.ensures)))
