@@ -100,12 +100,15 @@ pub record Left (b : List ℕ) (strings : Block) (d p len q n x : ℕ) : Type 0 
 
 -- ---- what was read, by the reader's answer
 
+-- a word's value
 pub word_read : {m : Outcome ℕ} {n : ℕ} → word_numbers (word.Got n) ≡ numbers itself m → m ≡ ok n
 word_read e = word_got _ refl e
 
+-- a token's number
 pub token_read : {m : Outcome ℕ} {t : Token} → token_numbers (token.Got t) ≡ numbers itself m → m ≡ ok t.number
 token_read e = token_got _ refl e
 
+-- what was read, and its place and length
 pub span_read : {p : ℕ} {m : Outcome (List ℕ)} {start len : ℕ} → span_numbers (span.Part start len) ≡ numbers place (span_at p m) → Told p m start len
 span_read e = span_part _ _ refl e
 

@@ -50,12 +50,15 @@ module _ (b : List ℕ) where
 -- ---- a header that was read: what the passes ask for
 
 module _ {b : List ℕ} {h : Header} (all : (i : ℕ) → slice_index b i < 256) (isHeader : header_of b ≡ ok h) where
+  -- the blob and the header's words are small
   found_fits : Fits b h
   unfolding AreBytes
   found_fits = header_fits b h all isHeader
 
+  -- the scan may start at the header's list
   pub scan_ready : ScanReady b h.reservations
   scan_ready = record { blob = found_fits.blob; start = found_fits.reservations }
 
+  -- the nodes may be checked with the strings from the header's word on
   pub names_small : Small b (record { start = h.strings; end = length b })
   names_small = record { blob = found_fits.blob; start = found_fits.strings; end = omega arith }

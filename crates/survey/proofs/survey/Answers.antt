@@ -1,16 +1,11 @@
 -- `survey` meets its contract: the header, the list and the root are found in the order in which they are judged, and each refusal is
 -- the survey's. The header says that the blob is small, which the passes ask for. Assumes nothing.
-use mathlib.Core.Path.{◌≡◌, sym, ap, ◌∙◌}
-use native.Mathlib.Omega.{arith}
-use Rattle.format.specs.Answer.{ok}
-use Rattle.format.specs.Bytes.{AreBytes}
+use mathlib.Core.Path.{sym}
 use Rattle.format.specs.Format.{version}
 use Rattle.format.specs.Rules.{ours}
 use Rattle.survey.specs.Outcomes.{next_outcome, node_outcome}
-use Rattle.survey.specs.Reserve.{scan_from}
-use Rattle.survey.specs.Survey.{header_of, names_of}
+use Rattle.survey.specs.Survey.{names_of}
 use Rattle.survey.specs.Outcomes.{header_outcome, survey_outcome}
-use Rattle.survey.proofs.HeaderLaws.{Fits, header_fits}
 use Rattle.survey.proofs.SurveyLaws.{scan_ready, names_small, no_header, no_list, no_root, end_after, whole}
 use Rattle.survey.proofs.survey.Goals as goal
 

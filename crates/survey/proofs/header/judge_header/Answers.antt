@@ -41,11 +41,13 @@ returns-then-version-ne-SUPPORTED_VERSION c =
 pub returns-in_default-read_be_u32-3 : goal.returns-in_default-read_be_u32-3
 unfolding header_outcome why_of magic version
 returns-in_default-read_be_u32-3 c =
-    sym (no_boot _ (version_passed c.in-Got.ensures c.if-magic.false c.in-Got-read_be_u32.ensures c.if-size-b.false c.in-Got-read_be_u32-2.ensures c.if-version-ne-SUPPORTED_VERSION.false)
+    sym (no_boot _
+    (version_passed c.in-Got.ensures c.if-magic.false c.in-Got-read_be_u32.ensures c.if-size-b.false c.in-Got-read_be_u32-2.ensures c.if-version-ne-SUPPORTED_VERSION.false)
     (word_short _ c.in_default-read_be_u32-3.is c.read_be_u32-4.ensures))
 
 pub returns : goal.returns
 unfolding header_outcome magic version
 returns c =
-    sym (whole _ (version_passed c.in-Got.ensures c.if-magic.false c.in-Got-read_be_u32.ensures c.if-size-b.false c.in-Got-read_be_u32-2.ensures c.if-version-ne-SUPPORTED_VERSION.false)
+    sym (whole _
+    (version_passed c.in-Got.ensures c.if-magic.false c.in-Got-read_be_u32.ensures c.if-size-b.false c.in-Got-read_be_u32-2.ensures c.if-version-ne-SUPPORTED_VERSION.false)
     c.word_at.ensures c.word_at-2.ensures c.word_at-3.ensures (word_got _ c.in-Got-read_be_u32-3.is c.read_be_u32-4.ensures))

@@ -1,13 +1,9 @@
 -- `check_node` meets its contract. The depth falls from call to call. The loop's invariant: what is left of the node from p on, with what
 -- is counted, gives what the whole node gives; its measure is what is left of the blob. Assumes nothing.
-use mathlib.Core.Path.{◌≡◌, sym, ap, ◌∙◌}
-use Prim.Native.Nat.{◌-◌}
+use mathlib.Core.Path.{sym}
 use native.Mathlib.Omega.{arith}
-use Rattle.format.specs.Answer.{ok}
 use Rattle.format.specs.Bytes.{AreBytes}
-use Rattle.format.specs.Read.{read_be_u32, node_load}
-use Rattle.reader.proofs.Outcomes.{token_got, token_short}
-use Rattle.survey.specs.Nodes.{block, counted}
+use Rattle.reader.proofs.Outcomes.{token_short}
 use Rattle.survey.specs.Outcomes.{next_outcome, head_outcome, node_outcome, why_of}
 use Rattle.survey.proofs.CountLaws.{token_read, node_deep, node_no_head, node_head, node_spans, left_past, left_bad_child, left_child, left_bad_end, left_good}
 use Rattle.survey.proofs.nodes.+check_node.Goals as goal

@@ -1,10 +1,8 @@
 -- `check_end` meets its contract: the token first, the name after it. Assumes nothing.
-use mathlib.Core.Path.{◌≡◌, sym}
+use mathlib.Core.Path.{sym}
 use native.Mathlib.Omega.{arith}
-use Rattle.format.specs.Answer.{ok}
-use Rattle.format.specs.Read.{read_be_u32}
 use Rattle.format.proofs.Read.{read_inside}
-use Rattle.reader.proofs.Outcomes.{token_got, token_short}
+use Rattle.reader.proofs.Outcomes.{token_short}
 use Rattle.utf8.proofs.Outcomes.{checked_good, checked_bad}
 use Rattle.survey.specs.Outcomes.{next_outcome, why_of}
 use Rattle.survey.proofs.CountLaws.{token_read, end_past, end_other, end_bad_name, end_good}

@@ -1,13 +1,9 @@
 -- `check_prop` meets its contract: the steps of `property`, in its order. Assumes nothing.
-use mathlib.Core.Path.{◌≡◌, sym}
-use Prim.Native.Nat.{◌+◌}
-use lib.ListN.{take}
+use mathlib.Core.Path.{sym}
 use lib.Seq.{length-take-le}
-use Rattle.format.specs.Answer.{ok}
-use Rattle.format.specs.Read.{read_be_u32, read_bstring0, subslice}
-use Rattle.reader.proofs.Outcomes.{word_got, word_short}
+use Rattle.reader.proofs.Outcomes.{word_short}
 use Rattle.utf8.proofs.Outcomes.{checked_good, checked_bad}
-use Rattle.reader.proofs.Parts.{Told, span_part, span_none}
+use Rattle.reader.proofs.Parts.{span_none}
 use Rattle.survey.specs.Outcomes.{next_outcome, why_of}
 use Rattle.survey.proofs.CountLaws.{word_read, span_read, name_ends, prop_no_size, prop_no_offset, prop_no_value, prop_no_name, prop_bad_name, prop_good}
 use Rattle.survey.proofs.nodes.check_prop.Goals as goal

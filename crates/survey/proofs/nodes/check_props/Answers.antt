@@ -1,14 +1,11 @@
 -- `check_props` meets its contract. The invariant: what is left from p on, with the n counted, is what there is from pos on.
 -- The measure is what is left of the blob. Assumes nothing.
 use borrow.Author.Rules.{rules}
-use mathlib.Core.Path.{◌≡◌, sym, ap, ◌∙◌}
+use mathlib.Core.Path.{sym, ◌∙◌}
 use native.Mathlib.Omega.{arith}
-use Rattle.format.specs.Answer.{ok}
-use Rattle.format.specs.Read.{read_be_u32, property}
 use Rattle.format.proofs.Read.{read_inside}
-use Rattle.format.proofs.Turns.{next_of, property_moves}
-use Rattle.reader.proofs.Outcomes.{token_got, token_short}
-use Rattle.survey.specs.Nodes.{block}
+use Rattle.format.proofs.Turns.{property_moves}
+use Rattle.reader.proofs.Outcomes.{token_short}
 use Rattle.survey.specs.Outcomes.{next_outcome, props_outcome, why_of}
 use Rattle.survey.proofs.CountLaws.{token_read, from_start, from_past, from_stop, from_bad, from_good}
 use Rattle.survey.proofs.nodes.check_props.Goals as goal
@@ -44,5 +41,7 @@ loop-token-smaller c = omega (arith, read_inside _ 4 _ (token_read c.in-Got.ensu
 pub loop-token-preserved : goal.loop-token-preserved
 unfolding next_outcome
 loop-token-preserved c =
-    let inv = c.loop-token.invariant in
-    (inv.0 ∙ from_good _ _ _ _ (token_read c.in-Got.ensures) c.if-token-ne-PROP.false (sym c.in-At.ensures), omega (arith, inv.1, property_moves _ _ _ _ (sym c.in-At.ensures)))
+    let inv = c.loop-token.invariant in (
+      inv.0 ∙ from_good _ _ _ _ (token_read c.in-Got.ensures) c.if-token-ne-PROP.false (sym c.in-At.ensures),
+      omega (arith, inv.1, property_moves _ _ _ _ (sym c.in-At.ensures)),
+    )

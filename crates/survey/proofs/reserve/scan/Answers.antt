@@ -1,13 +1,10 @@
 -- `scan` meets its contract. The invariant: the list from p on ends where the list from pos on does. The measure is what is left of the
 -- blob. Assumes nothing.
 use borrow.Author.Rules.{rules}
-use mathlib.Core.Path.{◌≡◌, refl, sym, ◌∙◌}
-use Prim.Native.Nat.{◌+◌}
+use mathlib.Core.Path.{refl, sym, ◌∙◌}
 use native.Mathlib.Omega.{arith}
-use Rattle.format.specs.Answer.{ok}
-use Rattle.format.specs.Read.{read_be_u64}
 use Rattle.format.proofs.Read.{read_inside}
-use Rattle.reader.proofs.Outcomes.{long_got, long_short}
+use Rattle.reader.proofs.Outcomes.{long_short}
 use Rattle.survey.specs.Outcomes.{next_outcome, why_of}
 use Rattle.survey.proofs.ReserveLaws.{long_read, scan_no_offset, scan_no_size, scan_last, scan_more}
 use Rattle.survey.proofs.reserve.scan.Goals as goal
@@ -30,8 +27,10 @@ loop-size-smaller c = omega (arith, read_inside _ 8 _ (long_read c.in-Got-read_b
 
 pub loop-size-preserved : goal.loop-size-preserved
 loop-size-preserved c =
-    let inv = c.loop-size.invariant in
-    (inv.0 ∙ scan_more _ _ (long_read c.in-Got.ensures) (long_read c.in-Got-read_be_u64.ensures) c.if-size-eq0.false, omega (arith, read_inside _ 8 _ (long_read c.in-Got-read_be_u64.ensures)))
+    let inv = c.loop-size.invariant in (
+      inv.0 ∙ scan_more _ _ (long_read c.in-Got.ensures) (long_read c.in-Got-read_be_u64.ensures) c.if-size-eq0.false,
+      omega (arith, read_inside _ 8 _ (long_read c.in-Got-read_be_u64.ensures)),
+    )
 
 pub returns : goal.returns
 unfolding next_outcome
