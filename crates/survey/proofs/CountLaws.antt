@@ -13,7 +13,7 @@ use lib.Seq.{length-take-le}
 use borrow.Author.Tests.{eq-eqb, ne_eqb}
 use Rattle.format.specs.Bytes.{align, part, AreBytes}
 use Rattle.format.specs.Format.{BEGIN_NODE, END_NODE, PROP}
-use Rattle.format.specs.Answer.{Refusal, parse_error, too_deep, Outcome, ok, refused, ◌>>=◌, check, or_else, numbers, itself, place, span_at}
+use Rattle.format.specs.Answer.{Refusal, parse_error, too_deep, Outcome, ok, refused, ◌>>=◌, check, or_else}
 use Rattle.format.specs.Tree.{Property, Nodes, node_count, node_counts, property_count, property_counts}
 use Rattle.format.specs.Read.{aligned, read_be_u32, read_bstring0, subslice, utf8_check, Read, property, properties, nodes, node_load}
 use Rattle.format.proofs.Answer.{never, ok_same, step, ok_then, then_ok, then_refused, then_then, then_same, check_ok, check_no}
@@ -25,13 +25,7 @@ use Rattle.format.proofs.Tools.{if_yes, if_no, if_went}
 use Rattle.format.proofs.Read.{part_read}
 use Rattle.format.proofs.Loops.{property_moves_lem, properties_turn, nodes_turn}
 use Rattle.format.proofs.Turns.{next_of}
-use Rattle.reader.specs.declared.Token.{Token}
-use Rattle.reader.specs.declared.Word.TheVariants as word
-use Rattle.reader.specs.declared.Read.TheVariants as token
-use Rattle.reader.specs.declared.Span.TheVariants as span
-use Rattle.reader.specs.Numbers.{word_numbers, token_numbers, span_numbers}
-use Rattle.reader.proofs.Outcomes.{word_got, token_got}
-use Rattle.reader.proofs.Parts.{Told, span_part, string_has, string_ends}
+use Rattle.reader.proofs.Parts.{Told, string_has, string_ends}
 use Rattle.reader.proofs.Rounding.{aligned_total}
 use Rattle.survey.specs.declared.Block.{Block}
 use Rattle.survey.specs.declared.nodes.Props.{Props}
@@ -97,20 +91,6 @@ pub record Left (b : List ℕ) (strings : Block) (d p len q n x : ℕ) : Type 0 
   pub same : counted (node_load b (block strings) d p) ≡ children_from b strings (d - 1) (part b (p + 4) len) q n x
   pub rows : n + x ≤ q
   pub name : p + 4 + len < length b
-
--- ---- what was read, by the reader's answer
-
--- a word's value
-pub word_read : {m : Outcome ℕ} {n : ℕ} → word_numbers (word.Got n) ≡ numbers itself m → m ≡ ok n
-word_read e = word_got _ refl e
-
--- a token's number
-pub token_read : {m : Outcome ℕ} {t : Token} → token_numbers (token.Got t) ≡ numbers itself m → m ≡ ok t.number
-token_read e = token_got _ refl e
-
--- what was read, and its place and length
-pub span_read : {p : ℕ} {m : Outcome (List ℕ)} {start len : ℕ} → span_numbers (span.Part start len) ≡ numbers place (span_at p m) → Told p m start len
-span_read e = span_part _ _ refl e
 
 -- ---- a node's end
 

@@ -7,23 +7,16 @@ use mathlib.Core.List.{List, [], ◌∷◌}
 use lib.ListN.{length}
 use borrow.Author.Tests.{eq-eqb, ne_eqb}
 use Rattle.format.specs.Choice.{when◌then◌else◌}
-use Rattle.format.specs.Answer.{Refusal, Outcome, ok, refused, ◌>>=◌, numbers, itself}
+use Rattle.format.specs.Answer.{Refusal, ok, refused, ◌>>=◌}
 use Rattle.format.specs.Rules.{ours, size_zero}
 use Rattle.format.specs.Read.{read_be_u64, reservation}
 use Rattle.format.proofs.Tools.{if_yes, if_no}
 use Rattle.format.proofs.Answer.{ok_then, then_ok, then_refused, then_then}
 use Rattle.format.proofs.Loops.{reservations_turn}
-use Rattle.reader.specs.declared.Long.TheVariants.{Got}
-use Rattle.reader.specs.Numbers.{long_numbers}
-use Rattle.reader.proofs.Outcomes.{long_got}
 use Rattle.survey.specs.Reserve.{listed, scan_from}
 
 sixteen : (p n : ℕ) → p + 16 * suc n ≡ p + 16 + 16 * n
 sixteen p n = omega arith
-
--- what was read, by the reader's answer
-pub long_read : {m : Outcome ℕ} {n : ℕ} → long_numbers (Got n) ≡ numbers itself m → m ≡ ok n
-long_read e = long_got _ refl e
 
 module _ (b : List ℕ) where
   pub list_turn : (p : ℕ) → listed b p ≡ (reservation b p >>= λ first.

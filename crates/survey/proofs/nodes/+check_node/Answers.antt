@@ -1,11 +1,11 @@
 -- `check_node` meets its contract. The depth falls from call to call. The loop's invariant: what is left of the node from p on, with what
 -- is counted, gives what the whole node gives; its measure is what is left of the blob. Assumes nothing.
-use mathlib.Core.Path.{sym}
+use mathlib.Core.Path.{refl, sym}
 use native.Mathlib.Omega.{arith}
 use Rattle.format.specs.Bytes.{AreBytes}
-use Rattle.reader.proofs.Outcomes.{token_short}
+use Rattle.reader.proofs.Outcomes.{token_got, token_short}
 use Rattle.survey.specs.Outcomes.{next_outcome, head_outcome, node_outcome, why_of}
-use Rattle.survey.proofs.CountLaws.{token_read, node_deep, node_no_head, node_head, node_spans, left_past, left_bad_child, left_child, left_bad_end, left_good}
+use Rattle.survey.proofs.CountLaws.{node_deep, node_no_head, node_head, node_spans, left_past, left_bad_child, left_child, left_bad_end, left_good}
 use Rattle.survey.proofs.nodes.+check_node.Goals as goal
 
 pub returns-then-depth-eq0 : goal.returns-then-depth-eq0
@@ -47,22 +47,22 @@ loop-token-smaller t c = omega (arith, node_spans _ _ (λ i. (c.type_inv.b i).fi
 pub loop-token-preserved : goal.loop-token-preserved
 unfolding AreBytes node_outcome
 loop-token-preserved t c =
-    left_child _ _ c.loop-token.invariant (token_read c.in-Got.ensures) c.if-token-ne-BEGIN_NODE.false
+    left_child _ _ c.loop-token.invariant (token_got _ refl c.in-Got.ensures) c.if-token-ne-BEGIN_NODE.false
     (λ i. (c.type_inv.b i).fits) (sym c.in-Good-check_node.ensures)
 
 pub returns-in-Refused-check_node : goal.returns-in-Refused-check_node
 unfolding node_outcome why_of
 returns-in-Refused-check_node t c =
-    sym (left_bad_child _ _ c.loop-token.invariant (token_read c.in-Got.ensures) c.if-token-ne-BEGIN_NODE.false
+    sym (left_bad_child _ _ c.loop-token.invariant (token_got _ refl c.in-Got.ensures) c.if-token-ne-BEGIN_NODE.false
     (sym c.in-Refused-check_node.ensures))
 
 pub returns-in-At : goal.returns-in-At
 unfolding next_outcome node_outcome
 returns-in-At t c =
-    sym (left_good _ _ c.loop-token.invariant (token_read c.in-Got.ensures) c.if-token-ne-BEGIN_NODE.true (sym c.in-At.ensures))
+    sym (left_good _ _ c.loop-token.invariant (token_got _ refl c.in-Got.ensures) c.if-token-ne-BEGIN_NODE.true (sym c.in-At.ensures))
 
 pub returns-in-Refused-check_end : goal.returns-in-Refused-check_end
 unfolding next_outcome node_outcome why_of
 returns-in-Refused-check_end t c =
-    sym (left_bad_end _ _ c.loop-token.invariant (token_read c.in-Got.ensures) c.if-token-ne-BEGIN_NODE.true
+    sym (left_bad_end _ _ c.loop-token.invariant (token_got _ refl c.in-Got.ensures) c.if-token-ne-BEGIN_NODE.true
     (sym c.in-Refused-check_end.ensures))
