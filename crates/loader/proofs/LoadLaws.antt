@@ -34,7 +34,7 @@ use Rattle.survey.specs.declared.DeviceTreeError.{DeviceTreeError}
 use Rattle.survey.specs.declared.DeviceTreeError.TheVariants.{ReservationRoom, NodeRoom, PropertyRoom}
 use Rattle.survey.specs.declared.Plan.{Plan}
 use Rattle.survey.specs.declared.Surveyed.{Surveyed}
-use Rattle.survey.specs.declared.Surveyed.TheVariants.{Good}
+use Rattle.survey.specs.declared.Surveyed.TheVariants.{Good, Refused}
 use Rattle.survey.proofs.FoundLaws.{Finds, survey_finds, survey_refused, carried}
 use Rattle.loader.specs.Numbers.{loaded_numbers, lent}
 use Rattle.loader.specs.Pass.{NodeHere, NodeReady, State, node_after}
@@ -70,6 +70,11 @@ stands_at b n {s} {s'} {p} {p'} e₁ e₂ h = subst (λ k. NodeAt b k p n) (sym 
 pub plan_found : {m : Outcome Plan} {r : Surveyed} {v : Plan} → survey_outcome r ≡ m → r ≡ Good v → m ≡ ok v
 unfolding survey_outcome
 plan_found e is = sym e ∙ ap survey_outcome is
+
+-- and one that answers with a refusal, that one
+pub refusal_found : {m : Outcome Plan} {r : Surveyed} {why : DeviceTreeError} → survey_outcome r ≡ m → r ≡ Refused why → m ≡ refused (why_of why)
+unfolding survey_outcome
+refusal_found e is = sym e ∙ ap survey_outcome is
 
 -- ---- load: refusals leave the tables
 

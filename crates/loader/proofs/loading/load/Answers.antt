@@ -1,19 +1,16 @@
 -- `load` meets its contract: what the survey refuses is refused, then the room is judged in the order 8, 9, 10, and only what has passed
 -- is stored. The laws say that the stores are ready and that what they leave is what a load is to leave. Assumes nothing.
-use mathlib.Core.Path.{sym, ap, ◌∙◌}
 use Rattle.format.specs.Format.{reservation_width, node_width, property_width, NONE}
 use Rattle.format.specs.Load.{capacity}
 use Rattle.format.specs.Rules.{ours}
 use Rattle.loader.specs.Pass.{passed}
-use Rattle.survey.specs.Outcomes.{survey_outcome}
 use Rattle.loader.specs.Numbers.{lent}
-use Rattle.loader.proofs.LoadLaws.{survey_refuses, no_reservation_room, no_node_room, no_property_room, stores_ready, writes_ready, loaded, plan_found, passes_when}
+use Rattle.loader.proofs.LoadLaws.{survey_refuses, no_reservation_room, no_node_room, no_property_room, stores_ready, writes_ready, loaded, plan_found, refusal_found, passes_when}
 use Rattle.loader.proofs.loading.load.Goals as goal
 
 pub returns-in-Refused : goal.returns-in-Refused
-unfolding survey_outcome
 returns-in-Refused c =
-    survey_refuses _ _ _ (sym c.survey.ensures ∙ ap survey_outcome c.in-Refused.is)
+    survey_refuses _ _ _ (refusal_found c.survey.ensures c.in-Refused.is)
 
 pub returns-then-reserved-tree : goal.returns-then-reserved-tree
 unfolding lent capacity reservation_width
