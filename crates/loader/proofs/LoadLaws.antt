@@ -1,7 +1,7 @@
 -- What the survey found is what a load answers, and the stores may begin; and what the stores leave is what a load is to leave.
 -- Assumes, where it is named, that the blob's elements are bytes.
 use mathlib.Core.Path.{◌≡◌, refl, sym, ap, ap₂, ◌∙◌, subst}
-use Prim.Native.Nat.{ℕ, ◌≤◌, ◌<◌, ◌^◌, ◌/◌}
+use Prim.Native.Nat.{ℕ, ◌≤◌, ◌<◌, ◌^◌}
 use native.Mathlib.Omega.{arith}
 use native.Mathlib.Nat.{zero-add}
 use mathlib.Core.List.{List, ◌∷◌}
@@ -26,15 +26,13 @@ use Rattle.format.proofs.Answer.{then_ok, then_refused, check_ok, check_no}
 use Rattle.format.proofs.Load.{capacity_fits, accepted}
 use Rattle.format.proofs.Sizes.{counts_fit, length_small, structure_is_lem, strings_is_lem}
 use Rattle.survey.specs.Nodes.{block}
-use Rattle.survey.specs.Outcomes.{why_of, survey_outcome}
+use Rattle.survey.specs.Outcomes.{why_of}
 use Rattle.survey.specs.Reserve.{listed}
 use Rattle.survey.specs.Survey.{survey_of}
 use Rattle.survey.specs.declared.Block.{Block}
 use Rattle.survey.specs.declared.DeviceTreeError.{DeviceTreeError}
 use Rattle.survey.specs.declared.DeviceTreeError.TheVariants.{ReservationRoom, NodeRoom, PropertyRoom}
 use Rattle.survey.specs.declared.Plan.{Plan}
-use Rattle.survey.specs.declared.Surveyed.{Surveyed}
-use Rattle.survey.specs.declared.Surveyed.TheVariants.{Good, Refused}
 use Rattle.survey.proofs.FoundLaws.{Finds, survey_finds, survey_refused, carried}
 use Rattle.loader.specs.Numbers.{loaded_numbers, lent}
 use Rattle.loader.specs.Pass.{NodeHere, NodeReady, State, node_after}
@@ -63,18 +61,6 @@ block_is k p q = ap₂ (λ a e. record { start = a; end = e }) p q
 
 stands_at : (b : List ℕ) (n : Node) {s s' : encodes.Block} {p p' : ℕ} → s ≡ s' → p ≡ p' → NodeAt b s' p' n → NodeAt b s p n
 stands_at b n {s} {s'} {p} {p'} e₁ e₂ h = subst (λ k. NodeAt b k p n) (sym e₁) (subst (λ q. NodeAt b s' q n) (sym e₂) h)
-
--- ---- what a call's answer says
-
--- a survey that answers with a plan has found it
-pub plan_found : {m : Outcome Plan} {r : Surveyed} {v : Plan} → survey_outcome r ≡ m → r ≡ Good v → m ≡ ok v
-unfolding survey_outcome
-plan_found e is = sym e ∙ ap survey_outcome is
-
--- and one that answers with a refusal, that one
-pub refusal_found : {m : Outcome Plan} {r : Surveyed} {why : DeviceTreeError} → survey_outcome r ≡ m → r ≡ Refused why → m ≡ refused (why_of why)
-unfolding survey_outcome
-refusal_found e is = sym e ∙ ap survey_outcome is
 
 -- ---- load: refusals leave the tables
 
@@ -128,9 +114,9 @@ pub record Passes (t : Tables) (b : List ℕ) (v : Plan) : Type 0 where
 
 -- the code's tests of the room, and that a `&[u8]` has bytes, make a load pass
 pub passes_when : (reserved nodes properties : List ℕ) {b : List ℕ} {v : Plan} → survey_of b ≡ ok v
-    → v.tree.reserved ≤ length reserved / 2 → v.tree.nodes ≤ length nodes / 7 → v.tree.props ≤ length properties / 4 → ((i : ℕ) → Fits w8 (slice_index b i))
+    → v.tree.reserved ≤ capacity reservation_width reserved → v.tree.nodes ≤ capacity node_width nodes → v.tree.props ≤ capacity property_width properties → ((i : ℕ) → Fits w8 (slice_index b i))
     → Passes (lent reserved nodes properties) b v
-unfolding lent capacity reservation_width node_width property_width AreBytes
+unfolding lent AreBytes
 passes_when reserved nodes properties e rs ns ps bytes = record { survey = e; reserved = rs; nodes = ns; props = ps; bytes = λ i. (bytes i).fits }
 
 module _ {t : Tables} {b : List ℕ} {v : Plan} (h : Passes t b v) where

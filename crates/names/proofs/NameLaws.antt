@@ -31,9 +31,9 @@ unequal : (xs ys : List ℕ) → (xs ≡ ys → ⊥) → same xs ys ≡ false
 unequal xs ys n = tested (same xs ys) (λ e. absurd (n (same_is xs ys e))) (λ e. e)
 
 -- what a `&[u8]` brings with it
-pub are_bytes : (s : List ℕ) → ((k : ℕ) → Fits w8 (slice_index s k)) → AreBytes s
+pub lent_bytes : (s : List ℕ) → ((k : ℕ) → Fits w8 (slice_index s k)) → AreBytes s
 unfolding AreBytes
-are_bytes s fits k = (fits k).fits
+lent_bytes s fits k = (fits k).fits
 
 module _ (s t : List ℕ) where
   pub length_differs : length s ≢ length t → false ≡ same s t
@@ -85,7 +85,7 @@ module _ (s t : List ℕ) where
   -- the words that the code has read are the same
   pub read_alike : ((k : ℕ) → Fits w8 (slice_index s k)) → ((k : ℕ) → Fits w8 (slice_index t k)) → (i : ℕ) {v w : ℕ}
       → v ≡ lowest s i → v ≡ w → w ≡ lowest t i → Alike (i + 4) → Alike i
-  read_alike fs ft i p e q all = word_alike (are_bytes s fs) (are_bytes t ft) i (sym p ∙ e ∙ q) all
+  read_alike fs ft i p e q all = word_alike (lent_bytes s fs) (lent_bytes t ft) i (sym p ∙ e ∙ q) all
 
   pub word_differs : (i : ℕ) → lowest s i ≢ lowest t i → false ≡ same s t
   word_differs i d = sym (unequal s t (λ e. d (ap (λ l. lowest l i) e)))

@@ -1,7 +1,7 @@
 -- `same_bytes` meets its contract: before each turn every byte after the word at i is the same. Assumes nothing.
 use native.Mathlib.Omega.{arith}
 use mathlib.Core.Path.{sym, ◌∙◌}
-use Rattle.names.proofs.NameLaws.{are_bytes, read_alike, word_differs, first_word}
+use Rattle.names.proofs.NameLaws.{lent_bytes, read_alike, word_differs, first_word}
 use Rattle.names.proofs.same_bytes.Goals as goal
 
 pub loop-i-init : goal.loop-i-init
@@ -14,7 +14,7 @@ pub returns-then-i-lt-WORD : goal.returns-then-i-lt-WORD
 returns-then-i-lt-WORD c =
     let alike = read_alike _ _ c.type_inv.s c.type_inv.t _ c.word_of.ensures c.if-word_of.false c.word_of-in-loop-i.ensures c.loop-i.invariant.1 in
     rw (c.word_of-then-i-lt-WORD.ensures, c.word_of-then-i-lt-WORD-2.ensures)
-    (first_word _ _ (are_bytes _ c.type_inv.s) (are_bytes _ c.type_inv.t) c.requires (λ k h l. alike k (omega (arith, c.if-i-lt-WORD.true)) l))
+    (first_word _ _ (lent_bytes _ c.type_inv.s) (lent_bytes _ c.type_inv.t) c.requires (λ k h l. alike k (omega (arith, c.if-i-lt-WORD.true)) l))
 
 pub loop-i-preserved : goal.loop-i-preserved
 loop-i-preserved c =
