@@ -88,7 +88,9 @@ fn some(file: &mut File, room: &mut [u8]) -> usize
 }
 
 // Reads until the room is full, the file ends or a read fails: how many bytes there are.
-fn full(file: &mut File, room: &mut [u8]) -> usize {
+fn full(file: &mut File, room: &mut [u8]) -> usize
+    ensures { result ≤ length room.new }
+{
     let mut done = 0;
     while done < room.len() {
         let n = some(file, &mut room[done..]);

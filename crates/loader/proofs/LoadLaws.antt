@@ -8,6 +8,9 @@ use mathlib.Core.List.{List, ◌∷◌}
 use lib.ListN.{length}
 use lib.Seq.{sets}
 use borrow.Author.Tests.{le-leb, lt-leb}
+use mir.Syntax.{w8}
+use mir.Val.{Fits}
+use Rattle.std.specs.Prelude.{slice_index}
 use Rattle.format.specs.Answer.{Outcome, ok, refused, numbers, reservation_room, node_room, property_room}
 use Rattle.format.specs.Bytes.{AreBytes}
 use Rattle.format.specs.Format as format
@@ -108,6 +111,13 @@ pub record Passes (t : Tables) (b : List ℕ) (v : Plan) : Type 0 where
   pub nodes : v.tree.nodes ≤ capacity node_width t.nodes
   pub props : v.tree.props ≤ capacity property_width t.properties
   pub bytes : AreBytes b
+
+-- the code's tests of the room, and that a `&[u8]` has bytes, make a load pass
+pub passes_when : (reserved nodes properties : List ℕ) {b : List ℕ} {v : Plan} → survey_of b ≡ ok v
+    → v.tree.reserved ≤ capacity reservation_width reserved → v.tree.nodes ≤ capacity node_width nodes → v.tree.props ≤ capacity property_width properties → ((i : ℕ) → Fits w8 (slice_index b i))
+    → Passes (lent reserved nodes properties) b v
+unfolding lent AreBytes
+passes_when reserved nodes properties e rs ns ps bytes = record { survey = e; reserved = rs; nodes = ns; props = ps; bytes = λ i. (bytes i).fits }
 
 module _ {t : Tables} {b : List ℕ} {v : Plan} (h : Passes t b v) where
   finds : Finds b v

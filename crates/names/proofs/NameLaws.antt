@@ -11,6 +11,9 @@ use lib.ListN.{length, drop, get_or, drop_of_length-le}
 use lib.Seq.{drop-cons, ext_get_or}
 use lib.Dec.{eqb}
 use borrow.Author.Tests.{eqb-true, eqb-false, eq-eqb, ne_eqb}
+use mir.Syntax.{w8}
+use mir.Val.{Fits}
+use Rattle.std.specs.Prelude.{slice_index}
 use Rattle.format.specs.Bytes.{AreBytes}
 use Rattle.format.specs.Find.{SLASH, head, same}
 use Rattle.format.proofs.Tools.{split, tested, if_yes, if_no}
@@ -26,6 +29,11 @@ same_self (x ∷ xs) = rw (eq-eqb x x refl, same_self xs)
 
 unequal : (xs ys : List ℕ) → (xs ≡ ys → ⊥) → same xs ys ≡ false
 unequal xs ys n = tested (same xs ys) (λ e. absurd (n (same_is xs ys e))) (λ e. e)
+
+-- what a `&[u8]` brings with it
+pub lent_bytes : (s : List ℕ) → ((k : ℕ) → Fits w8 (slice_index s k)) → AreBytes s
+unfolding AreBytes
+lent_bytes s fits k = (fits k).fits
 
 module _ (s t : List ℕ) where
   pub length_differs : length s ≢ length t → false ≡ same s t
@@ -73,6 +81,11 @@ module _ (s t : List ℕ) where
   word_alike bs bt i e all k lo l = split (i + 4) k (λ g. all k g l) (λ g.
       let x : i + (k - i) ≡ k = omega arith in
       rw x at (four_alike i (fours i bs bt e) (k - i) (omega arith)))
+
+  -- the words that the code has read are the same
+  pub read_alike : ((k : ℕ) → Fits w8 (slice_index s k)) → ((k : ℕ) → Fits w8 (slice_index t k)) → (i : ℕ) {v w : ℕ}
+      → v ≡ lowest s i → v ≡ w → w ≡ lowest t i → Alike (i + 4) → Alike i
+  read_alike fs ft i p e q all = word_alike (lent_bytes s fs) (lent_bytes t ft) i (sym p ∙ e ∙ q) all
 
   pub word_differs : (i : ℕ) → lowest s i ≢ lowest t i → false ≡ same s t
   word_differs i d = sym (unequal s t (λ e. d (ap (λ l. lowest l i) e)))

@@ -1,8 +1,7 @@
 -- `same_bytes` meets its contract: before each turn every byte after the word at i is the same. Assumes nothing.
 use native.Mathlib.Omega.{arith}
 use mathlib.Core.Path.{sym, ◌∙◌}
-use Rattle.format.specs.Bytes.{AreBytes}
-use Rattle.names.proofs.NameLaws.{Alike, word_alike, word_differs, first_word}
+use Rattle.names.proofs.NameLaws.{lent_bytes, read_alike, word_differs, first_word}
 use Rattle.names.proofs.same_bytes.Goals as goal
 
 pub loop-i-init : goal.loop-i-init
@@ -12,22 +11,14 @@ pub returns-then-word_of : goal.returns-then-word_of
 returns-then-word_of c = word_differs _ _ _ (λ e. c.if-word_of.true (c.word_of.ensures ∙ e ∙ sym c.word_of-in-loop-i.ensures))
 
 pub returns-then-i-lt-WORD : goal.returns-then-i-lt-WORD
-unfolding AreBytes
 returns-then-i-lt-WORD c =
-    let s-bytes : AreBytes c.args.s.now = λ i. (c.type_inv.s i).fits in
-    let t-bytes : AreBytes c.args.t.now = λ i. (c.type_inv.t i).fits in
-    let alike : Alike c.args.s.now c.args.t.now c.loop-i.i = let same = sym c.word_of.ensures ∙ c.if-word_of.false ∙ c.word_of-in-loop-i.ensures in
-    word_alike _ _ s-bytes t-bytes _ same c.loop-i.invariant.1 in
+    let alike = read_alike _ _ c.type_inv.s c.type_inv.t _ c.word_of.ensures c.if-word_of.false c.word_of-in-loop-i.ensures c.loop-i.invariant.1 in
     rw (c.word_of-then-i-lt-WORD.ensures, c.word_of-then-i-lt-WORD-2.ensures)
-    (first_word _ _ s-bytes t-bytes c.requires (λ k h l. alike k (omega (arith, c.if-i-lt-WORD.true)) l))
+    (first_word _ _ (lent_bytes _ c.type_inv.s) (lent_bytes _ c.type_inv.t) c.requires (λ k h l. alike k (omega (arith, c.if-i-lt-WORD.true)) l))
 
 pub loop-i-preserved : goal.loop-i-preserved
-unfolding AreBytes
 loop-i-preserved c =
-    let s-bytes : AreBytes c.args.s.now = λ i. (c.type_inv.s i).fits in
-    let t-bytes : AreBytes c.args.t.now = λ i. (c.type_inv.t i).fits in
-    let alike : Alike c.args.s.now c.args.t.now c.loop-i.i = let same = sym c.word_of.ensures ∙ c.if-word_of.false ∙ c.word_of-in-loop-i.ensures in
-    word_alike _ _ s-bytes t-bytes _ same c.loop-i.invariant.1 in
+    let alike = read_alike _ _ c.type_inv.s c.type_inv.t _ c.word_of.ensures c.if-word_of.false c.word_of-in-loop-i.ensures c.loop-i.invariant.1 in
     (omega (arith, c.loop-i.invariant.0), λ k h l. alike k (omega (arith, c.if-i-lt-WORD.false)) l)
 
 pub returns-then-s-lt-WORD : goal.returns-then-s-lt-WORD

@@ -1,4 +1,4 @@
--- `dt::file::full` is safe and ends: each turn that goes on puts a byte or more into the room. Assumes nothing.
+-- `dt::file::full` meets its contract, is safe and ends: each turn that goes on puts a byte or more into the room, and no more than it has. Assumes nothing.
 use Rattle.std.proofs.Common.{length, ◌-◌, ◌≤◌}
 use Rattle.dt.proofs.file.full.Given as goal
 

@@ -1,9 +1,8 @@
 -- `store` meets its contract. The invariant: what is left to store from p on leaves what storing from pos on would have left.
 -- The measure is what is left of the blob. Assumes nothing.
 use borrow.Author.Rules.{rules}
-use Prim.Native.Nat.{◌+◌, ◌≤◌}
 use native.Mathlib.Omega.{arith}
-use lib.ListN.{length, length-set}
+use lib.ListN.{length-set}
 use Rattle.loader.proofs.StoreLaws.{store_start, store_inside, store_room, store_last, store_again}
 use Rattle.loader.proofs.reserve.store.Goals as goal
 
@@ -15,8 +14,7 @@ overflow_add-p c = record { fits = omega (arith, store_inside _ c.loop-pos.invar
 
 pub bounds-table-at-in-loop-pos : goal.bounds-table-at-in-loop-pos
 bounds-table-at-in-loop-pos c =
-    let room : let l = c.loop-pos in l.at + 2 ≤ length l.table = store_room _ c.loop-pos.invariant in
-    simp length-set (omega (arith, room))
+    simp length-set (omega (arith, store_room _ c.loop-pos.invariant))
 
 pub returns-then-size-eq0 : goal.returns-then-size-eq0
 returns-then-size-eq0 c =
@@ -27,10 +25,7 @@ overflow_add-p-in-loop-pos c = record { fits = omega (arith, store_inside _ c.lo
 
 pub overflow_add-at : goal.overflow_add-at
 overflow_add-at c =
-    let room : let l = c.loop-pos in l.at + 2 ≤ length l.table = store_room _ c.loop-pos.invariant in
-    let h = room in
-    let long = c.loop-pos.invariant.long in
-    search rules
+    let room = store_room _ c.loop-pos.invariant in search rules
 
 pub loop-pos-smaller : goal.loop-pos-smaller
 loop-pos-smaller c = omega (arith, store_inside _ c.loop-pos.invariant)
@@ -41,5 +36,4 @@ loop-pos-preserved c =
 
 pub bounds-table-at : goal.bounds-table-at
 bounds-table-at c =
-    let room : let l = c.loop-pos in l.at + 2 ≤ length l.table = store_room _ c.loop-pos.invariant in
-    omega arith
+    omega (arith, store_room _ c.loop-pos.invariant)
