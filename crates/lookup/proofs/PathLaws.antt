@@ -1,5 +1,5 @@
 -- Looking up a path: what holds before each part of it and before each child, and the public calls by cases. Assumes nothing.
-use Rattle.std.proofs.Common.{◌≡◌, ℕ, zero, suc, ◌+◌, ◌-◌, ◌*◌, ◌/◌, ◌<◌, ◌≤◌, true, false, ◌&&◌, ltb, leb, ◌≢◌, ◌⊎◌, List, [], ◌∷◌, length, get_or, drop, sym, refl, ap, ◌∙◌, ⊎_elim, arith, ltb-true, eq-eqb, ne_eqb, le-leb, leb-true}
+use Rattle.std.proofs.Common.{◌≡◌, ℕ, zero, suc, ◌+◌, ◌-◌, ◌*◌, ◌/◌, ◌<◌, ◌≤◌, Bool, true, false, ◌&&◌, ltb, leb, ◌≢◌, ◌⊎◌, List, [], ◌∷◌, length, get_or, drop, sym, refl, ap, ◌∙◌, ⊎_elim, arith, ltb-true, eq-eqb, ne_eqb, le-leb, leb-true}
 use borrow.Author.Tests.{lt-leb}
 use borrow.Author.Rules.{part_to_end}
 use Rattle.format.specs.Answer.{Refusal, Outcome, ok, refused, ◌>>=◌, nothing_found, not_usable}
@@ -13,11 +13,11 @@ use Rattle.format.proofs.Tools.{both, tested, if_yes, if_no}
 use Rattle.format.proofs.Answer.{never, ok_same, then_ok, then_refused, check_ok, check_no}
 use Rattle.format.proofs.Lookup.{across_other, across_here, across_below, across_none, across_bad}
 use Rattle.format.proofs.Reached.{There, follows, led, links_of, links_good_lem, Enough, next_enough, turns_enough}
-use Rattle.lookup.specs.Places.{IsNode, child_from, ChildGives}
+use Rattle.lookup.specs.Places.{node_in, IsNode, child_from, ChildGives}
 use Rattle.lookup.specs.declared.judge.NodeCells.{NodeCells}
 use Rattle.lookup.specs.declared.path.Child.{Child}
 use Rattle.lookup.specs.declared.path.Child.TheVariants as child
-use Rattle.lookup.proofs.RowLaws.{leads}
+use Rattle.lookup.proofs.RowLaws.{nodes_length, node_read, ahead, fewer_ahead, leads}
 
 -- ---- one turn of the search for a child
 
@@ -221,6 +221,41 @@ module _ (b : List ℕ) (R : List NodeRow) (row : ℕ) (node : NodeCells) (is : 
 pub kid_bad : (b : List ℕ) (R : List NodeRow) (row : ℕ) → (links_good R row && name_inside b R row) ≡ false
     → (goal : Outcome ℕ) (first : List ℕ) → Kid b R goal first row → goal ≡ refused not_usable
 kid_bad b R row e goal first x = x.same ∙ child_bad b R x.turns row first x.some e
+
+-- a turn of the loop over children, by what is known in it: the link leads to a row, its numbers were read, and whether the row is good
+module _ (b nodes : List ℕ) (count link : ℕ) (goal : Outcome ℕ) (first : List ℕ) (x : Kids b (nodes_in count nodes) goal first link) (some : link ≢ NONE) where
+  turn_kid : Kid b (nodes_in count nodes) goal first link
+  turn_kid = kids_some _ _ _ _ _ x some
+
+  pub turn_below : link < count
+  turn_below = rw nodes_length at turn_kid.there
+
+  module _ (node : NodeCells) (read : IsNode node (node_in nodes link)) where
+    turn_is : IsNode node (at (nodes_in count nodes) link)
+    turn_is = node_read _ _ _ _ turn_below read
+
+    pub turn_child : node.child ≡ (at (nodes_in count nodes) link).first_child
+    turn_child = turn_is.child
+
+    module _ (t : Bool) (judged : (s : List ℕ) (R : List NodeRow) → length s ≡ length b → length R ≡ count → IsNode node (at R link) → t ≡ (links_good R link && name_inside s R link)) where
+      turn_judged : (v : Bool) → t ≡ v → (links_good (nodes_in count nodes) link && name_inside b (nodes_in count nodes) link) ≡ v
+      turn_judged v e = sym (judged _ _ refl (nodes_length _ _) turn_is) ∙ e
+
+      pub turn_bad : t ≡ false → goal ≡ refused not_usable
+      turn_bad e = kid_bad _ _ _ (turn_judged _ e) _ _ turn_kid
+
+      module _ (good : t ≡ true) where
+        pub turn_inside : node.name + node.len ≤ length b
+        turn_inside = judged_inside _ _ _ _ turn_is (turn_judged _ good)
+
+        pub turn_less : ahead count node.next < ahead count link
+        turn_less = rw nodes_length at (fewer_ahead _ _ _ turn_kid.some turn_kid.there (judged_next _ _ _ _ turn_is (turn_judged _ good)))
+
+        pub turn_here : same (part b node.name node.len) first ≡ true → goal ≡ ok link
+        turn_here e = kid_here _ _ _ _ turn_is (turn_judged _ good) _ _ turn_kid e
+
+        pub turn_next : same (part b node.name node.len) first ≡ false → Kids b (nodes_in count nodes) goal first node.next
+        turn_next e = kid_next _ _ _ _ turn_is (turn_judged _ good) _ _ turn_kid e
 
 -- ---- what the search gives
 

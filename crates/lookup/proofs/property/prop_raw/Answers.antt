@@ -16,20 +16,17 @@ returns-then-not-usable c = value_promise Unusable (raw_unusable _ _ _ _ _ _ _ (
 pub returns-then-props-many : goal.returns-then-props-many
 unfolding value_outcome
 returns-then-props-many c =
-    let there : usable c.args.nodes.now c.args.count c.args.row ≡ true = sym c.usable.ensures ∙ c.if-not-usable.false in
-    value_promise Unusable (raw_many _ _ _ _ _ _ _ there c.if-props-many.true)
+    value_promise Unusable (raw_many _ _ _ _ _ _ _ (sym c.usable.ensures ∙ c.if-not-usable.false) c.if-props-many.true)
 
 pub node_at-node-requires : goal.node_at-node-requires
 unfolding node_width
 node_at-node-requires c =
-    let there : usable c.args.nodes.now c.args.count c.args.row ≡ true = sym c.usable.ensures ∙ c.if-not-usable.false in
-    omega (arith, used _ _ _ there)
+    omega (arith, used _ _ _ (sym c.usable.ensures ∙ c.if-not-usable.false))
 
 pub returns-then-not-lies_in : goal.returns-then-not-lies_in
 unfolding value_outcome
 returns-then-not-lies_in c =
-    let there : usable c.args.nodes.now c.args.count c.args.row ≡ true = sym c.usable.ensures ∙ c.if-not-usable.false in
-    value_promise Unusable (raw_past _ _ _ _ _ _ _ there c.if-props-many.false _ c.node_at-node.ensures (sym c.lies_in.ensures ∙ c.if-not-lies_in.true))
+    value_promise Unusable (raw_past _ _ _ _ _ _ _ (sym c.usable.ensures ∙ c.if-not-usable.false) c.if-props-many.false _ c.node_at-node.ensures (sym c.lies_in.ensures ∙ c.if-not-lies_in.true))
 
 pub first_named-requires : goal.first_named-requires
 unfolding property_width
@@ -40,9 +37,8 @@ first_named-requires c =
 
 pub returns : goal.returns
 returns c =
-    let there : usable c.args.nodes.now c.args.count c.args.row ≡ true = sym c.usable.ensures ∙ c.if-not-usable.false in
     let all : leb (c.node_at-node.result.first + c.node_at-node.result.count) c.args.many ≡ true = sym c.lies_in.ensures ∙ c.if-not-lies_in.false in
     let most : c.node_at-node.result.first + c.node_at-node.result.count ≤ c.args.many = leb-true _ _ all in
     value_promise _
     (c.first_named.ensures c.args.many most
-    ∙ raw_among _ _ _ _ _ _ _ there c.if-props-many.false _ c.node_at-node.ensures all)
+    ∙ raw_among _ _ _ _ _ _ _ (sym c.usable.ensures ∙ c.if-not-usable.false) c.if-props-many.false _ c.node_at-node.ensures all)
