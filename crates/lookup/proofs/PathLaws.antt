@@ -272,6 +272,26 @@ module _ (b : List ℕ) (R : List NodeRow) (link : ℕ) (first : List ℕ) {r : 
   unfolding ChildGives
   gives_unusable e = rw e at g
 
+-- the next part of the path, by what the search for its child gave
+module _ (b : List ℕ) (R : List NodeRow) (goal : Outcome ℕ) (row link : ℕ) (path : List ℕ) (w : Way b R goal row link path) (h : 0 < length path) (name later : List ℕ)
+    (e : head path ≡ name) (f : rest path ≡ later) {r : Child} (g : ChildGives b R link name r) where
+  pub way_at : {c below : ℕ} → r ≡ child.At c below → Way b R goal c below later
+  way_at is =
+      let found = gives_at _ _ _ _ g is in
+      way_down _ _ _ _ _ _ w h _ _ e f _ _ found.0 found.1
+
+  pub way_nothing : r ≡ child.Nothing → refused nothing_found ≡ goal
+  way_nothing is = way_refused _ _ _ _ _ _ w h _ _ e f _ (gives_nothing _ _ _ _ g is)
+
+  pub way_unusable : r ≡ child.Unusable → refused not_usable ≡ goal
+  way_unusable is = way_refused _ _ _ _ _ _ w h _ _ e f _ (gives_unusable _ _ _ _ g is)
+
+-- a row whose numbers were read, with the judgement of its links
+module _ (nodes : List ℕ) (count row : ℕ) (node : NodeCells) (below : row < count) (read : IsNode node (node_in nodes row)) where
+  pub links_judged : (t : Bool) → ((R : List NodeRow) → length R ≡ count → IsNode node (at R row) → t ≡ links_good R row) → (v : Bool) → t ≡ v
+      → links_good (nodes_in count nodes) row ≡ v
+  links_judged t judged v e = sym (judged _ (nodes_length _ _) (node_read _ _ _ _ below read)) ∙ e
+
 -- ---- the public calls
 
 module _ (t : List ℕ) (n row : ℕ) where

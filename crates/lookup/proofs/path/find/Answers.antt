@@ -1,7 +1,6 @@
 -- `find` meets its contract, by its four returns. Assumes nothing.
-use Rattle.std.proofs.Common.{◌≡◌, true, sym, ◌∙◌, arith}
+use Rattle.std.proofs.Common.{sym, ◌∙◌, arith}
 use Rattle.format.specs.Bytes.{part}
-use Rattle.format.specs.Lookup.{usable}
 use Rattle.lookup.specs.Answers.{found_outcome}
 use Rattle.lookup.specs.declared.Found.TheVariants.{Nothing, Unusable}
 use Rattle.lookup.proofs.Outcomes.{found_promise}
