@@ -1,5 +1,5 @@
 -- Looking up a path: what holds before each part of it and before each child, and the public calls by cases. Assumes nothing.
-use Rattle.std.proofs.Common.{◌≡◌, ℕ, zero, suc, ◌+◌, ◌-◌, ◌*◌, ◌/◌, ◌<◌, ◌≤◌, true, false, ◌&&◌, ltb, leb, ◌≢◌, ◌⊎◌, List, [], ◌∷◌, length, get_or, drop, sym, refl, ap, ◌∙◌, ⊎_elim, arith, ltb-true, eq-eqb, ne_eqb, le-leb, leb-true}
+use Rattle.std.proofs.Common.{◌≡◌, ℕ, zero, suc, ◌+◌, ◌-◌, ◌*◌, ◌/◌, ◌<◌, ◌≤◌, Bool, true, false, ◌&&◌, ltb, leb, ◌≢◌, ◌⊎◌, List, [], ◌∷◌, length, get_or, drop, sym, refl, ap, ◌∙◌, ⊎_elim, arith, ltb-true, eq-eqb, ne_eqb, le-leb, leb-true}
 use borrow.Author.Tests.{lt-leb}
 use borrow.Author.Rules.{part_to_end}
 use Rattle.format.specs.Answer.{Refusal, Outcome, ok, refused, ◌>>=◌, nothing_found, not_usable}
@@ -13,11 +13,11 @@ use Rattle.format.proofs.Tools.{both, tested, if_yes, if_no}
 use Rattle.format.proofs.Answer.{never, ok_same, then_ok, then_refused, check_ok, check_no}
 use Rattle.format.proofs.Lookup.{across_other, across_here, across_below, across_none, across_bad}
 use Rattle.format.proofs.Reached.{There, follows, led, links_of, links_good_lem, Enough, next_enough, turns_enough}
-use Rattle.lookup.specs.Places.{IsNode, child_from, ChildGives}
+use Rattle.lookup.specs.Places.{node_in, IsNode, child_from, ChildGives}
 use Rattle.lookup.specs.declared.judge.NodeCells.{NodeCells}
 use Rattle.lookup.specs.declared.path.Child.{Child}
 use Rattle.lookup.specs.declared.path.Child.TheVariants as child
-use Rattle.lookup.proofs.RowLaws.{leads}
+use Rattle.lookup.proofs.RowLaws.{nodes_length, node_read, ahead, fewer_ahead, leads}
 
 -- ---- one turn of the search for a child
 
@@ -222,6 +222,41 @@ pub kid_bad : (b : List ℕ) (R : List NodeRow) (row : ℕ) → (links_good R ro
     → (goal : Outcome ℕ) (first : List ℕ) → Kid b R goal first row → goal ≡ refused not_usable
 kid_bad b R row e goal first x = x.same ∙ child_bad b R x.turns row first x.some e
 
+-- a turn of the loop over children, by what is known in it: the link leads to a row, its numbers were read, and whether the row is good
+module _ (b nodes : List ℕ) (count link : ℕ) (goal : Outcome ℕ) (first : List ℕ) (x : Kids b (nodes_in count nodes) goal first link) (some : link ≢ NONE) where
+  turn_kid : Kid b (nodes_in count nodes) goal first link
+  turn_kid = kids_some _ _ _ _ _ x some
+
+  pub turn_below : link < count
+  turn_below = rw nodes_length at turn_kid.there
+
+  module _ (node : NodeCells) (read : IsNode node (node_in nodes link)) where
+    turn_is : IsNode node (at (nodes_in count nodes) link)
+    turn_is = node_read _ _ _ _ turn_below read
+
+    pub turn_child : node.child ≡ (at (nodes_in count nodes) link).first_child
+    turn_child = turn_is.child
+
+    module _ (t : Bool) (judged : (s : List ℕ) (R : List NodeRow) → length s ≡ length b → length R ≡ count → IsNode node (at R link) → t ≡ (links_good R link && name_inside s R link)) where
+      turn_judged : (v : Bool) → t ≡ v → (links_good (nodes_in count nodes) link && name_inside b (nodes_in count nodes) link) ≡ v
+      turn_judged v e = sym (judged _ _ refl (nodes_length _ _) turn_is) ∙ e
+
+      pub turn_bad : t ≡ false → goal ≡ refused not_usable
+      turn_bad e = kid_bad _ _ _ (turn_judged _ e) _ _ turn_kid
+
+      module _ (good : t ≡ true) where
+        pub turn_inside : node.name + node.len ≤ length b
+        turn_inside = judged_inside _ _ _ _ turn_is (turn_judged _ good)
+
+        pub turn_less : ahead count node.next < ahead count link
+        turn_less = rw nodes_length at (fewer_ahead _ _ _ turn_kid.some turn_kid.there (judged_next _ _ _ _ turn_is (turn_judged _ good)))
+
+        pub turn_here : same (part b node.name node.len) first ≡ true → goal ≡ ok link
+        turn_here e = kid_here _ _ _ _ turn_is (turn_judged _ good) _ _ turn_kid e
+
+        pub turn_next : same (part b node.name node.len) first ≡ false → Kids b (nodes_in count nodes) goal first node.next
+        turn_next e = kid_next _ _ _ _ turn_is (turn_judged _ good) _ _ turn_kid e
+
 -- ---- what the search gives
 
 module _ (b : List ℕ) (R : List NodeRow) (link : ℕ) (first : List ℕ) {r : Child} (g : ChildGives b R link first r) where
@@ -236,6 +271,26 @@ module _ (b : List ℕ) (R : List NodeRow) (link : ℕ) (first : List ℕ) {r : 
   pub gives_unusable : r ≡ child.Unusable → child_from b R (length R) link first ≡ refused not_usable
   unfolding ChildGives
   gives_unusable e = rw e at g
+
+-- the next part of the path, by what the search for its child gave
+module _ (b : List ℕ) (R : List NodeRow) (goal : Outcome ℕ) (row link : ℕ) (path : List ℕ) (w : Way b R goal row link path) (h : 0 < length path) (name later : List ℕ)
+    (e : head path ≡ name) (f : rest path ≡ later) {r : Child} (g : ChildGives b R link name r) where
+  pub way_at : {c below : ℕ} → r ≡ child.At c below → Way b R goal c below later
+  way_at is =
+      let found = gives_at _ _ _ _ g is in
+      way_down _ _ _ _ _ _ w h _ _ e f _ _ found.0 found.1
+
+  pub way_nothing : r ≡ child.Nothing → refused nothing_found ≡ goal
+  way_nothing is = way_refused _ _ _ _ _ _ w h _ _ e f _ (gives_nothing _ _ _ _ g is)
+
+  pub way_unusable : r ≡ child.Unusable → refused not_usable ≡ goal
+  way_unusable is = way_refused _ _ _ _ _ _ w h _ _ e f _ (gives_unusable _ _ _ _ g is)
+
+-- a row whose numbers were read, with the judgement of its links
+module _ (nodes : List ℕ) (count row : ℕ) (node : NodeCells) (below : row < count) (read : IsNode node (node_in nodes row)) where
+  pub links_judged : (t : Bool) → ((R : List NodeRow) → length R ≡ count → IsNode node (at R row) → t ≡ links_good R row) → (v : Bool) → t ≡ v
+      → links_good (nodes_in count nodes) row ≡ v
+  links_judged t judged v e = sym (judged _ (nodes_length _ _) (node_read _ _ _ _ below read)) ∙ e
 
 -- ---- the public calls
 

@@ -1,8 +1,7 @@
 -- `first_named` meets its contract: what is left of the rows gives what all of them give. Assumes nothing.
-use Rattle.std.proofs.Common.{◌≡◌, ℕ, ◌+◌, true, leb, List, length, sym, refl, ◌∙◌, arith, leb-true}
+use Rattle.std.proofs.Common.{sym, refl, ◌∙◌, arith, leb-true}
 use Rattle.format.specs.Format.{property_width}
 use Rattle.lookup.specs.Answers.{value_outcome}
-use Rattle.lookup.specs.declared.judge.PropertyCells.{PropertyCells}
 use Rattle.lookup.proofs.PropertyLaws.{none_left, bad_name, bad_value, found_here, goes_on}
 use Rattle.lookup.proofs.property.first_named.Goals as goal
 
@@ -22,36 +21,22 @@ returns-then-not-lies_in c n few =
 pub returns-then-not-lies_in-2 : goal.returns-then-not-lies_in-2
 unfolding value_outcome
 returns-then-not-lies_in-2 c n few =
-    let blob : List ℕ = c.args.b.now in
-    let prop : PropertyCells = c.prop_at-prop.result in
-    let named : leb (prop.name + prop.len) (length blob) ≡ true = sym c.lies_in.ensures ∙ c.if-not-lies_in.false in
-    bad_value _ _ _ _ n _ few c.loop-k-test.true _ c.prop_at-prop.ensures named (sym c.lies_in-in-loop-k.ensures ∙ c.if-not-lies_in-2.true)
+    bad_value _ _ _ _ n _ few c.loop-k-test.true _ c.prop_at-prop.ensures (sym c.lies_in.ensures ∙ c.if-not-lies_in.false) (sym c.lies_in-in-loop-k.ensures ∙ c.if-not-lies_in-2.true)
     ∙ c.loop-k.invariant n few
 
 pub same_part-requires : goal.same_part-requires
 same_part-requires c =
-    let blob : List ℕ = c.args.b.now in
-    let prop : PropertyCells = c.prop_at-prop.result in
-    let named : leb (prop.name + prop.len) (length blob) ≡ true = sym c.lies_in.ensures ∙ c.if-not-lies_in.false in
-    leb-true _ _ named
+    leb-true _ _ (sym c.lies_in.ensures ∙ c.if-not-lies_in.false)
 
 pub returns-then-same_part : goal.returns-then-same_part
 unfolding value_outcome
 returns-then-same_part c n few =
-    let blob : List ℕ = c.args.b.now in
-    let prop : PropertyCells = c.prop_at-prop.result in
-    let named : leb (prop.name + prop.len) (length blob) ≡ true = sym c.lies_in.ensures ∙ c.if-not-lies_in.false in
-    let valued : leb (prop.value + prop.size) (length blob) ≡ true = sym c.lies_in-in-loop-k.ensures ∙ c.if-not-lies_in-2.false in
-    found_here _ _ _ _ n _ few c.loop-k-test.true _ c.prop_at-prop.ensures named valued (sym c.same_part.ensures ∙ c.if-same_part.true)
+    found_here _ _ _ _ n _ few c.loop-k-test.true _ c.prop_at-prop.ensures (sym c.lies_in.ensures ∙ c.if-not-lies_in.false) (sym c.lies_in-in-loop-k.ensures ∙ c.if-not-lies_in-2.false) (sym c.same_part.ensures ∙ c.if-same_part.true)
     ∙ c.loop-k.invariant n few
 
 pub loop-k-preserved : goal.loop-k-preserved
 loop-k-preserved c n few =
-    let blob : List ℕ = c.args.b.now in
-    let prop : PropertyCells = c.prop_at-prop.result in
-    let named : leb (prop.name + prop.len) (length blob) ≡ true = sym c.lies_in.ensures ∙ c.if-not-lies_in.false in
-    let valued : leb (prop.value + prop.size) (length blob) ≡ true = sym c.lies_in-in-loop-k.ensures ∙ c.if-not-lies_in-2.false in
-    sym (goes_on _ _ _ _ n _ few c.loop-k-test.true _ c.prop_at-prop.ensures named valued (sym c.same_part.ensures ∙ c.if-same_part.false))
+    sym (goes_on _ _ _ _ n _ few c.loop-k-test.true _ c.prop_at-prop.ensures (sym c.lies_in.ensures ∙ c.if-not-lies_in.false) (sym c.lies_in-in-loop-k.ensures ∙ c.if-not-lies_in-2.false) (sym c.same_part.ensures ∙ c.if-same_part.false))
     ∙ c.loop-k.invariant n few
 
 pub returns : goal.returns

@@ -1,7 +1,6 @@
 -- `prop_raw` meets its contract, by its four returns. Assumes nothing.
-use Rattle.std.proofs.Common.{◌≡◌, ◌+◌, ◌≤◌, true, leb, sym, ◌∙◌, arith, leb-true}
+use Rattle.std.proofs.Common.{sym, ◌∙◌, arith, leb-true}
 use Rattle.format.specs.Format.{node_width, property_width}
-use Rattle.format.specs.Lookup.{usable}
 use Rattle.lookup.specs.Answers.{value_outcome}
 use Rattle.lookup.specs.declared.Value.TheVariants.{Unusable}
 use Rattle.lookup.proofs.Outcomes.{value_promise}
@@ -16,33 +15,25 @@ returns-then-not-usable c = value_promise Unusable (raw_unusable _ _ _ _ _ _ _ (
 pub returns-then-props-many : goal.returns-then-props-many
 unfolding value_outcome
 returns-then-props-many c =
-    let there : usable c.args.nodes.now c.args.count c.args.row ≡ true = sym c.usable.ensures ∙ c.if-not-usable.false in
-    value_promise Unusable (raw_many _ _ _ _ _ _ _ there c.if-props-many.true)
+    value_promise Unusable (raw_many _ _ _ _ _ _ _ (sym c.usable.ensures ∙ c.if-not-usable.false) c.if-props-many.true)
 
 pub node_at-node-requires : goal.node_at-node-requires
 unfolding node_width
 node_at-node-requires c =
-    let there : usable c.args.nodes.now c.args.count c.args.row ≡ true = sym c.usable.ensures ∙ c.if-not-usable.false in
-    omega (arith, used _ _ _ there)
+    omega (arith, used _ _ _ (sym c.usable.ensures ∙ c.if-not-usable.false))
 
 pub returns-then-not-lies_in : goal.returns-then-not-lies_in
 unfolding value_outcome
 returns-then-not-lies_in c =
-    let there : usable c.args.nodes.now c.args.count c.args.row ≡ true = sym c.usable.ensures ∙ c.if-not-usable.false in
-    value_promise Unusable (raw_past _ _ _ _ _ _ _ there c.if-props-many.false _ c.node_at-node.ensures (sym c.lies_in.ensures ∙ c.if-not-lies_in.true))
+    value_promise Unusable (raw_past _ _ _ _ _ _ _ (sym c.usable.ensures ∙ c.if-not-usable.false) c.if-props-many.false _ c.node_at-node.ensures (sym c.lies_in.ensures ∙ c.if-not-lies_in.true))
 
 pub first_named-requires : goal.first_named-requires
 unfolding property_width
 first_named-requires c =
-    let all : leb (c.node_at-node.result.first + c.node_at-node.result.count) c.args.many ≡ true = sym c.lies_in.ensures ∙ c.if-not-lies_in.false in
-    let most : c.node_at-node.result.first + c.node_at-node.result.count ≤ c.args.many = leb-true _ _ all in
-    omega (arith, most, c.if-props-many.false)
+    omega (arith, leb-true _ _ (sym c.lies_in.ensures ∙ c.if-not-lies_in.false), c.if-props-many.false)
 
 pub returns : goal.returns
 returns c =
-    let there : usable c.args.nodes.now c.args.count c.args.row ≡ true = sym c.usable.ensures ∙ c.if-not-usable.false in
-    let all : leb (c.node_at-node.result.first + c.node_at-node.result.count) c.args.many ≡ true = sym c.lies_in.ensures ∙ c.if-not-lies_in.false in
-    let most : c.node_at-node.result.first + c.node_at-node.result.count ≤ c.args.many = leb-true _ _ all in
     value_promise _
-    (c.first_named.ensures c.args.many most
-    ∙ raw_among _ _ _ _ _ _ _ there c.if-props-many.false _ c.node_at-node.ensures all)
+    (c.first_named.ensures c.args.many (leb-true _ _ (sym c.lies_in.ensures ∙ c.if-not-lies_in.false))
+    ∙ raw_among _ _ _ _ _ _ _ (sym c.usable.ensures ∙ c.if-not-usable.false) c.if-props-many.false _ c.node_at-node.ensures (sym c.lies_in.ensures ∙ c.if-not-lies_in.false))
