@@ -1,3 +1,4 @@
--- Laws of numbers that are put, and that numbers determine an answer.
+-- Laws of putting an answer's numbers, of what is told, and that an answer's numbers determine it.
 mod Puts
+pub mod Parts
 pub mod Determined

@@ -1,14 +1,18 @@
--- Numbers put one after the other, and the numbers of an answer where the code has found out which answer it is. Assumes nothing.
-use mathlib.Core.Path.{◌≡◌, sym, ap, ◌∙◌}
-use Prim.Native.Nat.{ℕ}
-use mathlib.Core.List.{List}
-use lib.ListN.{set}
-use lib.Seq.{sets}
+-- Numbers put into a slice one by one. Assumes nothing.
+use Rattle.std.proofs.Common.{◌≡◌, ℕ, ◌+◌, ◌≤◌, ◌<◌, List, [], ◌∷◌, length, take, get_or, sym, ap, ◌∙◌, arith}
+use Rattle.std.proofs.lemmas.List.{length-take, take_more}
+use Rattle.std.proofs.lemmas.List.Edits.{sets}
+use Rattle.std.proofs.Math.ListN.{set}
+use Rattle.std.proofs.Math.Seq.{set_out}
+use Rattle.format.proofs.Rows.{sets_append}
+
+-- storing where no place is changes nothing
+pub no_place : (t : List ℕ) (at n : ℕ) → length t ≤ at → set t at n ≡ t
+no_place = set_out
 
 -- one number more, after those that were put
-pub next : (k n : ℕ) {t u v : List ℕ} → v ≡ set u k n → u ≡ t → v ≡ set t k n
-next k n e f = e ∙ ap (λ l. set l k n) f
-
--- the answer that was found out to be r has r's numbers
-pub put_as : {A : Type 0} (numbers : A → List ℕ) (t : List ℕ) {left : List ℕ} (r r' : A) → left ≡ sets t 0 (numbers r) → r' ≡ r → left ≡ sets t 0 (numbers r')
-put_as numbers t r r' e same = e ∙ ap (λ x. sets t 0 (numbers x)) (sym same)
+pub one_more : {u v : List ℕ} (t ns : List ℕ) (at d : ℕ) → at < length ns → u ≡ sets t 0 (take at ns) → v ≡ set u at (get_or ns at d) → v ≡ sets t 0 (take (at + 1) ns)
+one_more t ns at d h put e =
+    let as_many : 0 + length (take at ns) ≡ at = omega (arith, length-take at ns) in
+    e ∙ ap (λ u. set u at (get_or ns at d)) put ∙ ap (λ k. set (sets t 0 (take at ns)) k (get_or ns at d)) (sym as_many)
+    ∙ sym (sets_append t 0 (take at ns) (get_or ns at d ∷ [])) ∙ ap (sets t 0) (sym (take_more ns at d h))

@@ -20,9 +20,7 @@ pub extern "C" fn dangrisuk_load(
     ensures { Linked (lent reserved.old nodes.old props.old) blob.now answer.old
         (lent reserved.new nodes.new props.new) answer.new }
 {
-    let r = loader::load(blob, reserved, nodes, props);
-    let told = answers::of_load(r);
-    answers::put(answer, told);
+    answers::tell(answer, loader::load(blob, reserved, nodes, props));
 }
 
 // `loader::measure`: 0 to 7.
@@ -30,7 +28,5 @@ pub extern "C" fn dangrisuk_load(
 pub extern "C" fn dangrisuk_measure(blob: &[u8], answer: &mut [u64])
     ensures { Measured blob.now answer.old answer.new }
 {
-    let r = loader::measure(blob);
-    let told = answers::of_load(r);
-    answers::put(answer, told);
+    answers::tell(answer, loader::measure(blob));
 }

@@ -1,8 +1,11 @@
-// The words of the command line. Each is asked for where it is used: no buffer is handed about.
-use crate::{fill, help};
+// The words of the command line. Each is asked for where it is used.
+use crate::help::Nonsense;
+use show::escape::Line;
 use std::env::{Env, FillError};
+use std::fmt::{self, Display, Formatter};
 
-// Where they stand. The program's own name is word 0.
+// Where they stand. The program's own name is word 0. Numbers and no enum: std asks for a word by its number, and they are counted
+// through, so an enum would be turned into its number wherever it is used.
 pub const COMMAND: usize = 1;
 
 pub const FILE: usize = 2;
@@ -12,6 +15,55 @@ pub const PATH: usize = 3;
 pub const NAME: usize = 4;
 
 pub const READING: usize = 5;
+
+// One more than the words of any command line that makes sense.
+const MANY: usize = READING + 2;
+
+// The room for a word.
+pub const ROOM: usize = 4096;
+
+// A word of the command line, by its place.
+#[derive(Clone, Copy)]
+pub struct Word<'a> {
+    rt: &'a HostRuntime,
+    place: usize,
+}
+
+impl<'a> Word<'a> {
+    pub fn at(rt: &'a HostRuntime, place: usize) -> Word<'a> {
+        Word { rt, place }
+    }
+
+    // Its bytes, put into the room: none where there is no such word. One with more bytes makes no sense.
+    fn fitting<'r>(&self, room: &'r mut [u8; ROOM]) -> Result<&'r [u8], Nonsense> {
+        match self.rt.arg(self.place, room) {
+            Ok(n) => Ok(text::upto(room, n)),
+            Err(FillError::NotPresent) => Ok(&[]),
+            Err(FillError::TooLong) => Err(Nonsense::Long(self.place)),
+        }
+    }
+
+    // The same of a word that is known to fit.
+    pub fn bytes<'r>(&self, room: &'r mut [u8; ROOM]) -> &'r [u8] {
+        self.fitting(room).unwrap_or(&[])
+    }
+
+    fn is_missing(&self) -> bool {
+        let mut room = io::buffer();
+        matches!(
+            self.rt.arg(self.place, &mut room),
+            Err(FillError::NotPresent)
+        )
+    }
+}
+
+// The word in a line.
+impl Display for Word<'_> {
+    fn fmt<W: fmt::Write>(&self, f: &mut Formatter<W>) -> fmt::Result {
+        let mut room = io::buffer();
+        Line(self.bytes(&mut room)).fmt(f)
+    }
+}
 
 // How a property is to be read: as the tree shows it, or by one of the lookups.
 #[derive(Clone, Copy)]
@@ -32,182 +84,72 @@ pub enum Task {
     Prop(Reading),
 }
 
-// What the command line asks for; where it makes no sense, a line of `help` and the place of a word.
+impl Task {
+    // Whether a command line of so many words can ask for it. How a property is to be read may be left out.
+    fn takes(self, count: usize) -> bool {
+        match self {
+            Task::Check | Task::Tree => count == FILE + 1,
+            Task::Find => count == PATH + 1,
+            Task::Prop(_) => count == NAME + 1 || count == READING + 1,
+        }
+    }
+}
+
+// What the command line asks for.
 #[derive(Clone, Copy)]
 pub enum Asked {
     For(Task),
     Help,
-    Nonsense { line: u64, place: u64 },
-}
-
-// One more than the words of any command line that makes sense.
-const MANY: usize = READING + 2;
-
-// The commands, a line each.
-const COMMANDS: [u8; 36] = *b"check\ntree\nfind\nprop\nhelp\n--help\n-h\n";
-
-// The readings, a line each. An empty word asks for the value as the tree shows it.
-const READINGS: [u8; 17] = *b"\nraw\nstr\nu32\nu64\n";
-
-const UNKNOWN_READING: u64 = 5;
-
-// Whether a word ends where a line does: so far they are the same.
-fn ends(word: &[u8], at: usize, b: u8) -> bool {
-    if b != b'\n' {
-        return false;
-    }
-    at == word.len()
-}
-
-// How many bytes of a word and a line are the same, with one more of the line: after a byte that is another, more than any word
-// has; after a line's end, none of the next.
-fn along(word: &[u8], at: usize, b: u8) -> usize {
-    if b == b'\n' {
-        return 0;
-    }
-    if word.len() <= at {
-        return usize::MAX;
-    }
-    if word[at] != b {
-        return usize::MAX;
-    }
-    at + 1
-}
-
-// The line that a word is, counted from 0; as many as there are where it is none of them.
-fn line_of(lines: &[u8], word: &[u8]) -> u64 {
-    let mut line = 0;
-    let mut at = 0;
-    let mut i = 0;
-    while i < lines.len() {
-        let b = lines[i];
-        if ends(word, at, b) {
-            return line;
-        }
-        at = along(word, at, b);
-        line += fill::end(b);
-        i += 1;
-    }
-    line
-}
-
-// The bytes of the word at that place, put at the start of the room: none where there is no such word, or one with more bytes.
-pub fn word(rt: &HostRuntime, place: usize, room: &mut [u8]) -> usize {
-    rt.arg(place, room).unwrap_or(0)
-}
-
-// The line that the word at that place is.
-fn which(rt: &HostRuntime, place: usize, lines: &[u8]) -> u64 {
-    let mut room = io::buffer();
-    let n = word(rt, place, &mut room);
-    line_of(lines, text::upto(&room, n))
-}
-
-// Whether the word at that place has more bytes than a buffer.
-fn too_long(rt: &HostRuntime, place: usize) -> bool {
-    let mut room = io::buffer();
-    match rt.arg(place, &mut room) {
-        Err(FillError::TooLong) => true,
-        _ => false,
-    }
-}
-
-// Whether there is no word at that place.
-fn missing(rt: &HostRuntime, place: usize) -> bool {
-    let mut room = io::buffer();
-    match rt.arg(place, &mut room) {
-        Err(FillError::NotPresent) => true,
-        _ => false,
-    }
 }
 
 // How many words there are, the program's own name among them; `MANY` where there are more.
 fn count(rt: &HostRuntime) -> usize {
-    for place in 0..MANY {
-        if missing(rt, place) {
-            return place;
-        }
+    let mut places = 0..MANY;
+    places
+        .find(|place| Word::at(rt, *place).is_missing())
+        .unwrap_or(MANY)
+}
+
+// How a property is to be read is the last word, if it is there. An empty one asks for the value as the tree shows it.
+fn reading_of(rt: &HostRuntime, count: usize) -> Result<Reading, Nonsense> {
+    if count != READING + 1 {
+        return Ok(Reading::Shown);
     }
-    MANY
-}
-
-fn usage(line: u64) -> Asked {
-    Asked::Nonsense { line, place: 0 }
-}
-
-fn long(place: usize) -> Asked {
-    Asked::Nonsense {
-        line: help::LONG,
-        place: place as u64,
+    let mut room = io::buffer();
+    match Word::at(rt, READING).fitting(&mut room)? {
+        b"" => Ok(Reading::Shown),
+        b"raw" => Ok(Reading::Raw),
+        b"str" => Ok(Reading::Str),
+        b"u32" => Ok(Reading::U32),
+        b"u64" => Ok(Reading::U64),
+        _ => Err(Nonsense::Usage(Task::Prop(Reading::Shown))),
     }
 }
 
 // A task with the words that it wants, unless one of them is too long.
-fn worded(rt: &HostRuntime, task: Task) -> Asked {
-    if too_long(rt, FILE) {
-        return long(FILE);
+fn worded(rt: &HostRuntime, task: Task, count: usize) -> Result<Asked, Nonsense> {
+    if !task.takes(count) {
+        return Err(Nonsense::Usage(task));
     }
-    if too_long(rt, PATH) {
-        return long(PATH);
+    let mut room = io::buffer();
+    for place in FILE..READING {
+        Word::at(rt, place).fitting(&mut room)?;
     }
-    if too_long(rt, NAME) {
-        return long(NAME);
-    }
-    Asked::For(task)
+    Ok(Asked::For(task))
 }
 
-// A task of so many words, if there are so many.
-fn counted(rt: &HostRuntime, task: Task, words: usize, count: usize, line: u64) -> Asked {
-    if count != words {
-        return usage(line);
-    }
-    worded(rt, task)
-}
-
-fn reading_of(line: u64) -> Reading {
-    match line {
-        0 => Reading::Shown,
-        1 => Reading::Raw,
-        2 => Reading::Str,
-        3 => Reading::U32,
-        _ => Reading::U64,
-    }
-}
-
-// How a property is to be read is the last word, if it is there.
-fn prop(rt: &HostRuntime, count: usize) -> Asked {
-    if count != READING + 1 {
-        return counted(rt, Task::Prop(Reading::Shown), NAME + 1, count, help::PROP);
-    }
-    if too_long(rt, READING) {
-        return long(READING);
-    }
-    let line = which(rt, READING, &READINGS);
-    if line == UNKNOWN_READING {
-        return usage(help::PROP);
-    }
-    worded(rt, Task::Prop(reading_of(line)))
-}
-
-// A command by its line, with so many words.
-fn command(rt: &HostRuntime, line: u64, count: usize) -> Asked {
-    match line {
-        0 => counted(rt, Task::Check, FILE + 1, count, help::CHECK),
-        1 => counted(rt, Task::Tree, FILE + 1, count, help::TREE),
-        2 => counted(rt, Task::Find, PATH + 1, count, help::FIND),
-        3 => prop(rt, count),
-        4..=6 => Asked::Help,
-        _ => usage(help::UNKNOWN),
-    }
-}
-
-pub fn get(rt: &HostRuntime) -> Asked {
+pub fn get(rt: &HostRuntime) -> Result<Asked, Nonsense> {
     let count = count(rt);
     if count <= COMMAND {
-        return usage(help::ANY);
+        return Err(Nonsense::Any);
     }
-    if too_long(rt, COMMAND) {
-        return long(COMMAND);
+    let mut room = io::buffer();
+    match Word::at(rt, COMMAND).fitting(&mut room)? {
+        b"check" => worded(rt, Task::Check, count),
+        b"tree" => worded(rt, Task::Tree, count),
+        b"find" => worded(rt, Task::Find, count),
+        b"prop" => worded(rt, Task::Prop(reading_of(rt, count)?), count),
+        b"help" | b"--help" | b"-h" => Ok(Asked::Help),
+        _ => Err(Nonsense::Unknown),
     }
-    command(rt, which(rt, COMMAND, &COMMANDS), count)
 }

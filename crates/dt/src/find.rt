@@ -1,73 +1,47 @@
 // `dt find`: the node that a path names.
-use crate::{answer, args, fill};
-use lookup::Found;
-use show::fields;
-use text::{Output, ROOM};
+use crate::args::{PATH, Word};
+use crate::failure::Failure;
+use crate::loaded::Count;
+use answers::Refuses;
+use lookup::{LookupError, Nodes, Rows};
+use show::fields::Tree;
+use std::fmt::{self, Formatter};
+use std::io::Write;
 
-// Why there is no node, by the number of the refusal: 11, or 15, which no loaded tree gives.
-const REASONS: [u8; 65] = *b"dt: @
+// Why there is no node. No loaded tree has rows that cannot be used.
+pub fn wrong<W: fmt::Write>(f: &mut Formatter<W>, path: Word<'_>, why: LookupError) -> fmt::Result {
+    let code = why.answer().code();
+    match why {
+        LookupError::NotFound => write!(f, "no node {path} ({code})"),
+        LookupError::Unusable => write!(f, "its rows cannot be used ({code})"),
+    }
+}
 
-
-
-
-
-
-
-
-
-
-: no node & (#)
-
-
-
-: its rows cannot be used (#)
-";
-
-pub fn wrong(rt: &HostRuntime, found: Found) {
-    let n = answer::numbers(answers::of_found(found));
-    fill::wrong(rt, &REASONS, n.code, n)
+// A tree's rows, as the lookups take them. No `From`, for both types are other crates'.
+pub fn rows_of<'a>(tree: &Tree<'a>) -> Rows<'a, 'a> {
+    Rows {
+        nodes: Nodes {
+            blob: tree.b,
+            table: tree.nodes,
+            count: tree.counts.nodes,
+        },
+        props: tree.props,
+        many: tree.counts.props,
+    }
 }
 
 // The row of the node that the path names.
-pub fn row(rt: &HostRuntime, b: &[u8], nodes: &[u32], count: usize) -> Found {
+pub fn row(rt: &HostRuntime, tree: &Tree) -> Result<usize, Failure> {
     let mut room = io::buffer();
-    let n = args::word(rt, args::PATH, &mut room);
-    lookup::find(b, nodes, count, text::upto(&room, n))
+    let path = Word::at(rt, PATH).bytes(&mut room);
+    Ok(rows_of(tree).nodes.find(path)?)
 }
 
-// The line of a node that was found.
-fn line(
-    rt: &HostRuntime,
-    text: &mut [u8; ROOM],
-    row: usize,
-    props: usize,
-    children: usize,
-) -> Output {
-    let out = fill::part(
-        rt,
-        text,
-        text::good(),
-        b"&: row ^",
-        0,
-        fill::one(row as u64),
-    );
-    let out = fill::counted(rt, text, out, fill::PROPERTY, props);
-    let out = fill::counted(rt, text, out, fill::CHILD, children);
-    text::byte(rt, text, out, b'\n')
-}
-
-fn good(rt: &HostRuntime, nodes: &[u32], count: usize, row: usize) {
-    let props = fields::props_of(nodes, row);
-    let children = fields::children(nodes, count, row);
-    let mut text = [0u8; ROOM];
-    let out = line(rt, &mut text, row, props, children);
-    fill::done(rt, &text, out)
-}
-
-pub fn put(rt: &HostRuntime, b: &[u8], nodes: &[u32], count: usize) {
-    let found = row(rt, b, nodes, count);
-    match found {
-        Found::Row(row) => good(rt, nodes, count, row),
-        _ => wrong(rt, found),
-    }
+pub fn put(rt: &HostRuntime, out: &mut impl Write, tree: &Tree) -> Result<(), Failure> {
+    let row = row(rt, tree)?;
+    let path = Word::at(rt, PATH);
+    let props = Count::of(tree.node(row).props as usize, "property", "properties");
+    let children = Count::of(tree.children(row), "child", "children");
+    writeln!(out, "{path}: row {row}, {props}, {children}")?;
+    Ok(())
 }

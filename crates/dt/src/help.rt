@@ -1,39 +1,53 @@
 // `dt help`, and what is said where the words of the command line make no sense.
-use crate::{BLOB, NODES, PROPERTIES, RESERVATIONS, fill};
+use crate::args::{ROOM as WORD, Task, Word};
+use crate::{BLOB, NODES, PROPERTIES, RESERVATIONS};
 use format::DEPTH;
-use text::{Output, ROOM};
+use std::fmt::{self, Formatter};
+use std::io::{Result, Write};
 
-// Command lines that make no sense. By the words at the end of these lines ./dt knows them.
-const NONSENSE: [u8; 363] = *b"dt
-: usage: dt check FILE: dt help tells more
-: usage: dt tree FILE: dt help tells more
-: usage: dt find FILE PATH: dt help tells more
-: usage: dt prop FILE PATH NAME [raw|str|u32|u64]: dt help tells more
-: usage: dt check|tree|find|prop|help ..: dt help tells more
-: unknown command '?': dt help lists them
-: word ^ is longer than 4096 bytes: dt help tells more
-";
+// Command lines that make no sense: a task with too few or too many words, none at all, or a word that is no command or is too long.
+#[derive(Clone, Copy)]
+pub enum Nonsense {
+    Usage(Task),
+    Any,
+    Unknown,
+    Long(usize),
+}
 
-pub const CHECK: u64 = 1;
+// How a command is used.
+fn usage(task: Task) -> &'static str {
+    match task {
+        Task::Check => "check FILE",
+        Task::Tree => "tree FILE",
+        Task::Find => "find FILE PATH",
+        Task::Prop(_) => "prop FILE PATH NAME [raw|str|u32|u64]",
+    }
+}
 
-pub const TREE: u64 = 2;
-
-pub const FIND: u64 = 3;
-
-pub const PROP: u64 = 4;
-
-pub const ANY: u64 = 5;
-
-pub const UNKNOWN: u64 = 6;
-
-pub const LONG: u64 = 7;
-
-pub fn wrong(rt: &HostRuntime, line: u64, place: u64) {
-    fill::wrong(rt, &NONSENSE, line, fill::one(place))
+// What is said of them. By the words at the end of these lines ./dt knows them.
+pub fn wrong<W: fmt::Write>(f: &mut Formatter<W>, command: Word<'_>, why: Nonsense) -> fmt::Result {
+    match why {
+        Nonsense::Usage(task) => {
+            let usage = usage(task);
+            write!(f, "usage: dt {usage}: dt help tells more")
+        }
+        Nonsense::Any => write!(
+            f,
+            "usage: dt check|tree|find|prop|help ..: dt help tells more"
+        ),
+        Nonsense::Unknown => write!(f, "unknown command '{command}': dt help lists them"),
+        Nonsense::Long(place) => write!(
+            f,
+            "word {place} is longer than {WORD} bytes: dt help tells more"
+        ),
+    }
 }
 
 // What the commands do, and how they show what they find.
-const COMMANDS: [u8; 1126] = *b"dt reads flattened device trees (.dtb).
+pub fn put(out: &mut impl Write) -> Result<()> {
+    write!(
+        out,
+        "dt reads flattened device trees (.dtb).
 
   dt check FILE        whether it is good; if not, why and where
   dt tree FILE         the whole tree as .dts text
@@ -54,51 +68,11 @@ and file names one that is not printable ASCII is, and a backslash is shown as t
 Reservations: the last row, of size 0, ends the list. It is counted, and it is shown, as a
 comment, only if it has an offset.
 
-";
+Limits: {BLOB} bytes a file, {RESERVATIONS} reservation rows, {NODES} nodes, {PROPERTIES} properties,
+and {DEPTH} nodes one inside another.
 
-const LIMITS: [u8; 100] = *b"Limits: ^ bytes a file, * reservation rows,
- ^ nodes, * properties,
-and ^ nodes one inside another.
-";
-
-const STATUS: [u8; 135] = *b"
 What goes wrong is one line on standard error. The exit status of ./dt is then 1, or 2 where
 the command line makes no sense; else 0.
-";
-
-fn limits(rt: &HostRuntime, text: &mut [u8; ROOM], out: Output) -> Output {
-    let lines = &LIMITS;
-    let out = fill::part(
-        rt,
-        text,
-        out,
-        lines,
-        0,
-        fill::two(BLOB as u64, RESERVATIONS as u64),
-    );
-    let out = fill::line(
-        rt,
-        text,
-        out,
-        lines,
-        1,
-        fill::two(NODES as u64, PROPERTIES as u64),
-    );
-    fill::line(rt, text, out, lines, 2, fill::one(DEPTH as u64))
-}
-
-fn commands(rt: &HostRuntime, text: &mut [u8; ROOM], out: Output) -> Output {
-    text::bytes(rt, text, out, &COMMANDS)
-}
-
-fn status(rt: &HostRuntime, text: &mut [u8; ROOM], out: Output) -> Output {
-    text::bytes(rt, text, out, &STATUS)
-}
-
-pub fn put(rt: &HostRuntime) {
-    let mut text = [0u8; ROOM];
-    let out = commands(rt, &mut text, text::good());
-    let out = limits(rt, &mut text, out);
-    let out = status(rt, &mut text, out);
-    fill::done(rt, &text, out)
+"
+    )
 }

@@ -1,31 +1,46 @@
 // What was loaded, in words: `dt check`, and the second line of `dt tree`.
-use crate::fill;
+use std::fmt::{Display, Formatter, Result, Write};
 use survey::DeviceTree;
-use text::{Output, ROOM};
 
-fn counts(rt: &HostRuntime, text: &mut [u8; ROOM], out: Output, tree: DeviceTree) -> Output {
-    let out = fill::counted(rt, text, out, fill::RESERVATION, tree.reserved);
-    let out = fill::counted(rt, text, out, fill::NODE, tree.nodes);
-    fill::counted(rt, text, out, fill::PROPERTY, tree.props)
+// How many there are of a thing, and its word for that many.
+#[derive(Clone, Copy)]
+pub struct Count<'a> {
+    n: usize,
+    word: &'a str,
 }
 
-// A line: what tells version and boot CPU, and behind it the counts of rows.
-pub fn line(
-    rt: &HostRuntime,
-    text: &mut [u8; ROOM],
-    out: Output,
-    before: &[u8],
-    tree: DeviceTree,
-) -> Output {
-    let numbers = fill::two(tree.version as u64, tree.boot_cpuid_phys as u64);
-    let out = fill::part(rt, text, out, before, 0, numbers);
-    let out = counts(rt, text, out, tree);
-    text::byte(rt, text, out, b'\n')
+impl<'a> Count<'a> {
+    // By the word for one, and for any other number.
+    pub fn of(n: usize, one: &'a str, more: &'a str) -> Count<'a> {
+        Count {
+            n,
+            word: if n == 1 { one } else { more },
+        }
+    }
 }
 
-pub fn put(rt: &HostRuntime, tree: DeviceTree) {
-    let mut text = [0u8; ROOM];
-    let before = b"@: good: version ^, boot CPU *";
-    let out = line(rt, &mut text, text::good(), before, tree);
-    fill::done(rt, &text, out)
+impl Display for Count<'_> {
+    fn fmt<W: Write>(&self, f: &mut Formatter<W>) -> Result {
+        let n = self.n;
+        let word = self.word;
+        write!(f, "{n} {word}")
+    }
+}
+
+// Version and boot CPU, and behind them the counts of rows.
+#[derive(Clone, Copy)]
+pub struct Loaded(pub DeviceTree);
+
+impl Display for Loaded {
+    fn fmt<W: Write>(&self, f: &mut Formatter<W>) -> Result {
+        let version = self.0.version;
+        let boot = self.0.boot_cpuid_phys;
+        let reserved = Count::of(self.0.reserved, "reservation row", "reservation rows");
+        let nodes = Count::of(self.0.nodes, "node", "nodes");
+        let props = Count::of(self.0.props, "property", "properties");
+        write!(
+            f,
+            "version {version}, boot CPU {boot}, {reserved}, {nodes}, {props}"
+        )
+    }
 }

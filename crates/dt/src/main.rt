@@ -1,10 +1,9 @@
 // dt: a device tree blob on the command line. Answers go to standard output; what goes wrong is one line on standard error.
 #![tactic(auto)]
 
-mod answer;
 mod args;
+mod failure;
 mod file;
-mod fill;
 mod find;
 mod help;
 mod loaded;
@@ -12,10 +11,13 @@ mod prop;
 mod tree;
 mod words;
 
-use args::{Asked, Task};
+use args::{Asked, FILE, Task, Word};
+use failure::Failure;
 use format::{NODE_WIDTH, PROPERTY_WIDTH, RESERVATION_WIDTH};
-use loader::Loaded;
-use survey::DeviceTree;
+use show::fields::Tree;
+use std::io::Write;
+use text::Output;
+use words::Refused;
 
 // The most bytes that a file may have, and the rows that there is room for: some 3.5 MiB, all of it on the stack. The function that
 // makes an array lends it whole, by its type: no proof has to look at millions of zeros for its length.
@@ -34,21 +36,20 @@ const NODE_CELLS: usize = NODES * NODE_WIDTH;
 const PROPERTY_CELLS: usize = PROPERTIES * PROPERTY_WIDTH;
 
 // A tree that was loaded.
-fn of_tree(
-    rt: &HostRuntime,
-    task: Task,
-    b: &[u8],
-    reserved: &[u64],
-    nodes: &[u32],
-    props: &[u32],
-    tree: DeviceTree,
-) {
+fn of_tree(rt: &HostRuntime, task: Task, tree: &Tree) -> Result<(), Failure> {
+    let mut out = Output::new(rt.stdout());
     match task {
-        Task::Check => loaded::put(rt, tree),
-        Task::Tree => tree::put(rt, b, reserved, nodes, props, tree),
-        Task::Find => find::put(rt, b, nodes, tree.nodes),
-        Task::Prop(reading) => prop::put(rt, b, nodes, tree.nodes, props, tree.props, reading),
+        Task::Check => {
+            let file = Word::at(rt, FILE);
+            let loaded = loaded::Loaded(tree.counts);
+            writeln!(out, "{file}: good: {loaded}")?;
+        }
+        Task::Tree => tree::put(&mut out, tree)?,
+        Task::Find => find::put(rt, &mut out, tree)?,
+        Task::Prop(reading) => prop::put(rt, &mut out, tree, reading)?,
     }
+    out.flush()?;
+    Ok(())
 }
 
 // A file's bytes, loaded into the room for its rows.
@@ -59,15 +60,22 @@ fn of_blob(
     reserved: &mut [u64; RESERVED],
     nodes: &mut [u32; NODE_CELLS],
     props: &mut [u32; PROPERTY_CELLS],
-) {
-    match loader::load(b, reserved, nodes, props) {
-        Loaded::Refused(why) => words::refused(rt, b, why),
-        Loaded::Tree(tree) => of_tree(rt, task, b, reserved, nodes, props, tree),
-    }
+) -> Result<(), Failure> {
+    let counts = loader::load(b, reserved, nodes, props).map_err(|why| Failure::Refused(Refused::of(
+        b, why,
+    )))?;
+    let tree = Tree {
+        b,
+        reserved,
+        nodes,
+        props,
+        counts,
+    };
+    of_tree(rt, task, &tree)
 }
 
 // A file's bytes, with room for its rows.
-fn with_rows(rt: &HostRuntime, task: Task, b: &[u8]) {
+fn with_rows(rt: &HostRuntime, task: Task, b: &[u8]) -> Result<(), Failure> {
     let mut reserved = [0u64; RESERVED];
     let mut nodes = [0u32; NODE_CELLS];
     let mut props = [0u32; PROPERTY_CELLS];
@@ -75,24 +83,33 @@ fn with_rows(rt: &HostRuntime, task: Task, b: &[u8]) {
 }
 
 // A file, read into the room for it.
-fn of_file(rt: &HostRuntime, task: Task, blob: &mut [u8; BLOB]) {
-    let n = file::read(rt, blob);
-    if n == 0 {
-        return;
-    }
+fn of_file(rt: &HostRuntime, task: Task, blob: &mut [u8; BLOB]) -> Result<(), Failure> {
+    let n = file::read(rt, blob)?;
     with_rows(rt, task, text::upto(blob, n))
 }
 
 // A file, with room for it.
-fn with_file(rt: &HostRuntime, task: Task) {
+fn with_file(rt: &HostRuntime, task: Task) -> Result<(), Failure> {
     let mut blob = [0u8; BLOB];
     of_file(rt, task, &mut blob)
 }
 
+fn tell_help(rt: &HostRuntime) -> Result<(), Failure> {
+    let mut out = Output::new(rt.stdout());
+    help::put(&mut out)?;
+    out.flush()?;
+    Ok(())
+}
+
+fn all(rt: &HostRuntime) -> Result<(), Failure> {
+    match args::get(rt)? {
+        Asked::For(task) => with_file(rt, task),
+        Asked::Help => tell_help(rt),
+    }
+}
+
 fn main(rt: HostRuntime) {
-    match args::get(&rt) {
-        Asked::For(task) => with_file(&rt, task),
-        Asked::Help => help::put(&rt),
-        Asked::Nonsense { line, place } => help::wrong(&rt, line, place),
+    if let Err(why) = all(&rt) {
+        failure::tell(&rt, why);
     }
 }

@@ -1,142 +1,111 @@
 // `dt prop`: a property's value, as it is shown in the tree or by one of the lookups.
-use crate::args::Reading;
-use crate::fill::Numbers;
-use crate::{answer, args, fill, find};
-use answers::Answer;
-use lookup::Found;
-use show::{escape, fields, value};
-use text::{Output, ROOM};
+use crate::args::{NAME, Reading, Word};
+use crate::failure::Failure;
+use crate::find;
+use answers::Refuses;
+use lookup::Rows;
+use reader::BigEndian;
+use show::escape::Line;
+use show::fields::{Tree, cut};
+use show::value::{Alone, Pairs};
+use std::fmt::{self, Display, Formatter};
+use std::io::Write;
+use values::{PropError, PropResult};
 
-// Where a property is looked for: the row of its node, and the rows that there are.
+// Why a property is not read, in words. Only a number can be too short, and it is told of how many bytes.
 #[derive(Clone, Copy)]
-struct At {
-    nodes: usize,
-    props: usize,
-    row: usize,
+pub struct NoValue {
+    why: PropError,
+    reading: Reading,
 }
 
-// Why a property is not read, by the number of the refusal. Only a number can be too short, and it is told of how many bytes.
-const REASONS: [u8; 199] = *b"dt: @: property ! of &
-
-
-
-
- is no string: it is not UTF-8 (#)
-
-
-
-
-
- is not there (#)
- is no string: it does not end in a zero byte (#)
- is shorter than ^ bytes (#)
-
- has rows that cannot be used (#)
-";
-
-// How many bytes a number has.
+// How many bytes a value must have to be read so: a number's own, and any will do for the others.
 fn width(reading: Reading) -> u64 {
     match reading {
         Reading::U32 => 4,
         Reading::U64 => 8,
-        _ => 0,
+        Reading::Shown | Reading::Raw | Reading::Str => 0,
     }
 }
 
-fn wrong(rt: &HostRuntime, code: u64, reading: Reading) {
-    let n = Numbers {
-        code,
-        first: width(reading),
-        second: 0,
-    };
-    fill::wrong(rt, &REASONS, code, n)
-}
-
-fn ask(b: &[u8], nodes: &[u32], props: &[u32], at: At, name: &[u8], reading: Reading) -> Answer {
-    match reading {
-        Reading::Str => {
-            let text = values::prop_str(b, nodes, at.nodes, props, at.props, at.row, name);
-            answers::of_text(text)
-        }
-        Reading::U32 => {
-            let n = values::prop_u32(b, nodes, at.nodes, props, at.props, at.row, name);
-            answers::of_number32(n)
-        }
-        Reading::U64 => {
-            let n = values::prop_u64(b, nodes, at.nodes, props, at.props, at.row, name);
-            answers::of_number64(n)
-        }
-        _ => {
-            let v = lookup::prop_raw(b, nodes, at.nodes, props, at.props, at.row, name);
-            answers::of_value(v)
+impl Display for NoValue {
+    fn fmt<W: fmt::Write>(&self, f: &mut Formatter<W>) -> fmt::Result {
+        let code = self.why.answer().code();
+        let width = width(self.reading);
+        match self.why {
+            PropError::NotFound => write!(f, "is not there ({code})"),
+            PropError::Utf8Error => write!(f, "is no string: it is not UTF-8 ({code})"),
+            PropError::Missing0 => {
+                write!(f, "is no string: it does not end in a zero byte ({code})")
+            }
+            PropError::Short => write!(f, "is shorter than {width} bytes ({code})"),
+            PropError::Unusable => write!(f, "has rows that cannot be used ({code})"),
         }
     }
 }
 
-// The bytes that an answer tells the place of.
-fn part(b: &[u8], got: Numbers) -> &[u8] {
-    fields::cut(b, got.first as usize, got.second as usize)
+// The bytes of a value, and those of its text.
+fn raw<'b>(rows: &Rows<'b, '_>, row: usize, name: &[u8]) -> PropResult<&'b [u8]> {
+    let value = rows.prop_raw(row, name)?;
+    Ok(cut(rows.nodes.blob, value.start, value.len))
+}
+
+fn string<'b>(rows: &Rows<'b, '_>, row: usize, name: &[u8]) -> PropResult<&'b [u8]> {
+    let text = values::prop_str(rows, row, name)?;
+    Ok(cut(rows.nodes.blob, text.start, text.len))
 }
 
 // A number, in decimal and in hexadecimal.
-fn number(rt: &HostRuntime, text: &mut [u8; ROOM], out: Output, got: Numbers) -> Output {
-    fill::part(rt, text, out, b"^ ($)", 0, got)
+#[derive(Clone, Copy)]
+struct Number(u64);
+
+impl Display for Number {
+    fn fmt<W: fmt::Write>(&self, f: &mut Formatter<W>) -> fmt::Result {
+        let n = self.0;
+        write!(f, "{n} (0x{n:x})")
+    }
 }
 
-fn shown(
-    rt: &HostRuntime,
-    text: &mut [u8; ROOM],
-    v: &[u8],
+// The value's first bytes as a number, as many as the number's type has.
+fn number_of<T: BigEndian + Into<u64>>(
+    rows: &Rows<'_, '_>,
+    row: usize,
+    name: &[u8],
+) -> PropResult<Number> {
+    let n: T = values::prop_number(rows, row, name)?;
+    Ok(Number(n.into()))
+}
+
+// The line of a property that is read.
+fn line(
+    out: &mut impl Write,
+    told: Result<impl Display + Drop, PropError>,
     reading: Reading,
-    got: Numbers,
-) -> Output {
-    let out = text::good();
-    match reading {
-        Reading::Shown => value::alone(rt, text, out, v),
-        Reading::Raw => value::pairs(rt, text, out, v),
-        Reading::Str => escape::line(rt, text, out, v),
-        _ => number(rt, text, out, got),
+) -> Result<(), Failure> {
+    match told {
+        Ok(told) => {
+            writeln!(out, "{told}")?;
+            Ok(())
+        }
+        Err(why) => Err(Failure::NoValue(NoValue { why, reading })),
     }
-}
-
-fn good(rt: &HostRuntime, b: &[u8], reading: Reading, got: Numbers) {
-    let mut text = [0u8; ROOM];
-    let out = shown(rt, &mut text, part(b, got), reading, got);
-    let out = text::byte(rt, &mut text, out, b'\n');
-    fill::done(rt, &text, out)
-}
-
-// The property of the node at that row.
-fn of_node(rt: &HostRuntime, b: &[u8], nodes: &[u32], props: &[u32], at: At, reading: Reading) {
-    let mut room = io::buffer();
-    let n = args::word(rt, args::NAME, &mut room);
-    let name = text::upto(&room, n);
-    let got = answer::numbers(ask(b, nodes, props, at, name, reading));
-    if got.code != 0 {
-        return wrong(rt, got.code, reading);
-    }
-    good(rt, b, reading, got)
 }
 
 pub fn put(
     rt: &HostRuntime,
-    b: &[u8],
-    nodes: &[u32],
-    count: usize,
-    props: &[u32],
-    many: usize,
+    out: &mut impl Write,
+    tree: &Tree,
     reading: Reading,
-) {
-    let found = find::row(rt, b, nodes, count);
-    match found {
-        Found::Row(row) => {
-            let at = At {
-                nodes: count,
-                props: many,
-                row,
-            };
-            of_node(rt, b, nodes, props, at, reading)
-        }
-        _ => find::wrong(rt, found),
+) -> Result<(), Failure> {
+    let row = find::row(rt, tree)?;
+    let mut room = io::buffer();
+    let name = Word::at(rt, NAME).bytes(&mut room);
+    let rows = find::rows_of(tree);
+    match reading {
+        Reading::Shown => line(out, raw(&rows, row, name).map(Alone), reading),
+        Reading::Raw => line(out, raw(&rows, row, name).map(Pairs), reading),
+        Reading::Str => line(out, string(&rows, row, name).map(Line), reading),
+        Reading::U32 => line(out, number_of::<u32>(&rows, row, name), reading),
+        Reading::U64 => line(out, number_of::<u64>(&rows, row, name), reading),
     }
 }

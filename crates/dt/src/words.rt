@@ -1,7 +1,8 @@
 // Why a blob is refused, in words.
-use crate::fill::Numbers;
-use crate::{NODES, PROPERTIES, RESERVATIONS, answer, fill};
+use crate::{NODES, PROPERTIES, RESERVATIONS};
+use answers::Refuses;
 use format::DEPTH;
+use std::fmt::{Display, Formatter, Result, Write};
 use survey::DeviceTreeError;
 
 // Where the length and the version stand in a blob.
@@ -9,54 +10,72 @@ const LENGTH_AT: usize = 4;
 
 const VERSION_AT: usize = 20;
 
-// The words of each refusal, by its number.
-const REASONS: [u8; 603] = *b"dt: @: refused with #
-: it does not begin with d00dfeed
-: its header tells a length of ^ bytes, and the file has *
-: unexpected end: a part reaches past the end of the file, or a value right up to it
-: a parse error at byte ^ ($): the word ~ may not stand there
-: the name of a node or a property is not UTF-8
-: it is of version ^, and only 17 is read
-: too deep: with the node at byte ^ ($) there would be more than * one inside another
-: it needs ^ rows for reservations, and dt has room for *
-: it needs ^ rows for nodes, and dt has room for *
-: it needs ^ rows for properties, and dt has room for *
-";
-
-// The word at a position of the blob.
-fn word(b: &[u8], pos: usize) -> u64 {
-    text::word(reader::word_at(b, pos))
+// Why, how many bytes the file has, and the word of it that is told: a length, a version, or one that no rule allows at a position.
+#[derive(Clone, Copy)]
+pub struct Refused {
+    why: DeviceTreeError,
+    len: usize,
+    word: u32,
 }
 
-// The first number in those words: what the blob has, or what the refusal carries.
-fn first(b: &[u8], why: DeviceTreeError, carried: u64) -> u64 {
-    match why {
-        DeviceTreeError::SizeMismatch => word(b, LENGTH_AT),
-        DeviceTreeError::VersionNotSupported => word(b, VERSION_AT),
-        _ => carried,
+impl Refused {
+    pub fn of(b: &[u8], why: DeviceTreeError) -> Refused {
+        let at = match why {
+            DeviceTreeError::ParseError(at) => at,
+            DeviceTreeError::VersionNotSupported => VERSION_AT,
+            _ => LENGTH_AT,
+        };
+        Refused {
+            why,
+            len: b.len(),
+            word: reader::number_at(b, at),
+        }
     }
 }
 
-// The second one: what that is held against, or the word that no rule allows at a position.
-fn second(b: &[u8], why: DeviceTreeError) -> u64 {
-    match why {
-        DeviceTreeError::SizeMismatch => b.len() as u64,
-        DeviceTreeError::ParseError(pos) => word(b, pos),
-        DeviceTreeError::TooDeep(_) => DEPTH as u64,
-        DeviceTreeError::ReservationRoom(_) => RESERVATIONS as u64,
-        DeviceTreeError::NodeRoom(_) => NODES as u64,
-        DeviceTreeError::PropertyRoom(_) => PROPERTIES as u64,
-        _ => 0,
-    }
+// That there are more rows of a table than dt has room for.
+fn rows<W: Write>(f: &mut Formatter<W>, n: usize, table: &str, most: usize) -> Result {
+    write!(
+        f,
+        "it needs {n} rows for {table}, and dt has room for {most}"
+    )
 }
 
-// A blob that is not loaded.
-pub fn refused(rt: &HostRuntime, b: &[u8], why: DeviceTreeError) {
-    let n = answer::numbers(answers::of_refusal(why));
-    let told = Numbers {
-        code: n.code,
-        first: first(b, why, n.first),
-        second: second(b, why),
-    };
-    fill::wrong(rt, &REASONS, n.code, told)
+impl Display for Refused {
+    fn fmt<W: Write>(&self, f: &mut Formatter<W>) -> Result {
+        let len = self.len;
+        let word = self.word;
+        let code = self.why.answer().code();
+        write!(f, "refused with {code}: ")?;
+        match self.why {
+            DeviceTreeError::InvalidMagicNumber => write!(f, "it does not begin with d00dfeed"),
+            DeviceTreeError::SizeMismatch => write!(
+                f,
+                "its header tells a length of {word} bytes, and the file has {len}"
+            ),
+            DeviceTreeError::UnexpectedEndOfInput => write!(
+                f,
+                "unexpected end: a part reaches past the end of the file, or a value right up to it"
+            ),
+            DeviceTreeError::ParseError(at) => write!(
+                f,
+                "a parse error at byte {at} (0x{at:x}): the word 0x{word:08x} may not stand there"
+            ),
+            DeviceTreeError::Utf8Error => write!(
+                f,
+                "the name of a node or a property is not UTF-8"
+            ),
+            DeviceTreeError::VersionNotSupported => write!(
+                f,
+                "it is of version {word}, and only 17 is read"
+            ),
+            DeviceTreeError::TooDeep(at) => write!(
+                f,
+                "too deep: with the node at byte {at} (0x{at:x}) there would be more than {DEPTH} one inside another"
+            ),
+            DeviceTreeError::ReservationRoom(n) => rows(f, n, "reservations", RESERVATIONS),
+            DeviceTreeError::NodeRoom(n) => rows(f, n, "nodes", NODES),
+            DeviceTreeError::PropertyRoom(n) => rows(f, n, "properties", PROPERTIES),
+        }
+    }
 }

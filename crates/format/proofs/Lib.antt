@@ -1,5 +1,6 @@
 pub mod Tools
 pub mod Answer
+pub mod Results
 pub mod Utf8
 pub mod Bytes
 pub mod Read

@@ -7,6 +7,7 @@ pub mod Utf8
 pub mod Rules
 pub mod Encodes
 pub mod Read
+pub mod Results
 pub mod Rows
 pub mod Load
 pub mod Find

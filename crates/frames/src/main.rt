@@ -4,35 +4,12 @@
 
 mod reply;
 
-use lines::{Input, LINE};
-use text::{Output, ROOM};
+use text::Output;
 
-// Where a line is whole it is answered; where it is not, all that was read is taken, and the answers go out.
-fn turn(
-    rt: &HostRuntime,
-    line: &[u8; LINE],
-    input: Input,
-    out: Output,
-    text: &mut [u8; ROOM],
-) -> Output {
-    if !input.whole {
-        return text::flush(rt, text, out);
-    }
-    let told = replies::put(rt, text, out, reply::reply(text::upto(line, input.len)));
-    lines::finish(rt, text, told, input)
-}
-
+// After a write that failed nobody is told: the program ends.
 fn main(rt: HostRuntime) {
-    let mut buffer = io::large_buffer();
-    let mut line = [0u8; LINE];
-    let mut text = [0u8; ROOM];
-    let mut input = lines::start();
-    let mut out = text::good();
-    // A proved loop has to end, and nothing says that the input does: a count of turns that no run uses up.
-    let mut turns = u64::MAX;
-    while turns > 0 && input.going && out.works {
-        input = lines::next(&rt, &mut buffer, &mut line, input);
-        out = turn(&rt, &line, input, out, &mut text);
-        turns -= 1;
-    }
+    let mut out = Output::new(rt.stdout());
+    let _ = lines::answer_all(rt.stdin(), &mut out, |line, out| {
+        replies::put(out, reply::reply(line))
+    });
 }

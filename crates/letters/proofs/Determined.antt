@@ -3,7 +3,7 @@ use Prim.Native.Nat.{ℕ}
 use mathlib.Core.Path.{◌≡◌, sym, ◌∙◌}
 use mathlib.Core.List.{List}
 use Rattle.answers.specs.Answers.{answer_numbers}
-use Rattle.answers.specs.declared.Answer.{Answer}
+use Rattle.answers.specs.declared.answer.Answer.{Answer}
 use Rattle.answers.proofs.Determined.{answer_by_numbers}
 use Rattle.letters.specs.Replies.{reply}
 

@@ -1,3 +1,3 @@
 -- Laws that belong to no one function.
 pub mod Determined
-mod ReplyLaws
+pub mod ReplyLaws

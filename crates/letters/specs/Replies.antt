@@ -1,32 +1,34 @@
 -- What a line is answered: the reader's numbers for what its fields spell, and 16 for a bad line. Assumes nothing.
-use Rattle.std.specs.Prelude.{ℕ, cond, List, [], ◌∷◌, eqb, ltb, length, drop, get_or}
-use Rattle.std.proofs.Math.Option.{Option, none, some}
+use Rattle.std.specs.Prelude.{ℕ, cond, List, [], ◌∷◌, eqb, ltb, length, drop, get_or, Option, Some, None}
 use Rattle.format.specs.Answer.{numbers, itself, nothing, place, span_at}
 use Rattle.format.specs.Read as read
 use Rattle.lines.specs.Fields.{first_of, rest_of, number_of, bytes_of}
-use Rattle.lines.specs.declared.Number.{Number}
-use Rattle.lines.specs.declared.Number.TheVariants as number
-use Rattle.letters.specs.declared.Two.{Two}
-use Rattle.letters.specs.declared.Two.TheVariants as two
+use Rattle.answers.specs.Answers.{answer_numbers}
+use Rattle.answers.specs.declared.answer.Answer.{Answer}
+
+-- what a line is told, 16 where it is bad
+abbrev pub told : Option Answer → List ℕ
+told (Some a) = answer_numbers a
+told None = 16 ∷ []
 
 -- ---- go on where the fields spell something
 
-unfoldable pub with_number : Number → (ℕ → List ℕ) → List ℕ
-with_number (number.Is n) f = f n
-with_number number.Bad f = 16 ∷ []
+abbrev pub with_number : Option ℕ → (ℕ → List ℕ) → List ℕ
+with_number (Some n) f = f n
+with_number None f = 16 ∷ []
 
-unfoldable pub with_bytes : Option (List ℕ) → (List ℕ → List ℕ) → List ℕ
-with_bytes (some b) f = f b
-with_bytes none f = 16 ∷ []
+abbrev pub with_bytes : Option (List ℕ) → (List ℕ → List ℕ) → List ℕ
+with_bytes (Some b) f = f b
+with_bytes None f = 16 ∷ []
 
-unfoldable pub two_of : Number → Number → Two
-two_of (number.Is a) (number.Is b) = two.Are a b
-two_of (number.Is a) number.Bad = two.Bad
-two_of number.Bad n = two.Bad
+abbrev pub two_of : Option ℕ → Option ℕ → Option (ℕ × ℕ)
+two_of (Some a) (Some b) = Some (a, b)
+two_of (Some a) None = None
+two_of None n = None
 
-unfoldable pub with_two : Two → (ℕ → ℕ → List ℕ) → List ℕ
-with_two (two.Are a b) f = f a b
-with_two two.Bad f = 16 ∷ []
+abbrev pub with_two : Option (ℕ × ℕ) → (ℕ → ℕ → List ℕ) → List ℕ
+with_two (Some (a, b)) f = f a b
+with_two None f = 16 ∷ []
 
 -- two numbers, and what a reader makes of them
 unfoldable pub numbers_reply : (ℕ → ℕ → List ℕ) → List ℕ → List ℕ

@@ -1,12 +1,7 @@
 -- The fields of a line, and what a field spells: a number in decimal digits, or bytes in hexadecimal digits. Assumes nothing.
-use Rattle.std.specs.Prelude.{ℕ, zero, suc, ◌+◌, ◌*◌, ◌-◌, ◌/◌, ◌%◌, ◌^◌, ◌≤◌, ◌≡◌, cond, List, [], ◌∷◌, ◌++◌, eqb, leb, ltb, length, take, drop, get_or}
-use Rattle.std.proofs.Math.Option.{Option, none, some}
+use Rattle.std.specs.Prelude.{ℕ, zero, suc, ◌+◌, ◌*◌, ◌-◌, ◌/◌, ◌%◌, ◌^◌, ◌≤◌, ◌≡◌, cond, List, [], ◌∷◌, ◌++◌, eqb, leb, ltb, length, take, drop, get_or, Option, Some, None}
 use Rattle.format.specs.Answer.{or_zero}
 use Rattle.format.specs.Read.{read_be_u32}
-use Rattle.lines.specs.declared.Number.{Number}
-use Rattle.lines.specs.declared.Number.TheVariants as number
-use Rattle.lines.specs.declared.Count.{Count}
-use Rattle.lines.specs.declared.Count.TheVariants as count
 
 -- the first field of a line: what stands before its first space (32)
 unfoldable pub first_of : List ℕ → List ℕ
@@ -36,21 +31,21 @@ digit_of b =
     (cond (ltb b 65) 16 (cond (leb b 70) (b - 65 + 10) (cond (ltb b 97) 16 (cond (leb b 102) (b - 97 + 10) 16)))))
 
 -- "decimal numbers up to 18446744073709551615": the digits s, after digits that spell n
-unfoldable pub number_from : ℕ → List ℕ → Number
-number_from n [] = number.Is n
+unfoldable pub number_from : ℕ → List ℕ → Option ℕ
+number_from n [] = Some n
 number_from n (b ∷ s) =
     cond (leb (digit_of b) 9)
-    (cond (ltb (n * 10 + digit_of b) (2 ^ 64)) (number_from (n * 10 + digit_of b) s) number.Bad)
-    number.Bad
+    (cond (ltb (n * 10 + digit_of b) (2 ^ 64)) (number_from (n * 10 + digit_of b) s) None)
+    None
 
 -- 1 to 20 digits
-unfoldable pub number_of : List ℕ → Number
-number_of s = cond (eqb (length s) 0) number.Bad (cond (ltb 20 (length s)) number.Bad (number_from 0 s))
+unfoldable pub number_of : List ℕ → Option ℕ
+number_of s = cond (eqb (length s) 0) None (cond (ltb 20 (length s)) None (number_from 0 s))
 
 -- bytes, and those that follow them if there are any
 unfoldable pub before : List ℕ → Option (List ℕ) → Option (List ℕ)
-before xs none = none
-before xs (some ys) = some (xs ++ ys)
+before xs None = None
+before xs (Some ys) = Some (xs ++ ys)
 
 -- the byte that two digits spell, 256 where one of them is none
 unfoldable pub pair_of : ℕ → ℕ → ℕ
@@ -58,33 +53,33 @@ pair_of a b = cond (ltb (digit_of a) 16) (cond (ltb (digit_of b) 16) (digit_of a
 
 -- two digits a byte
 unfoldable pub pairs_of : List ℕ → Option (List ℕ)
-pairs_of [] = some []
-pairs_of (a ∷ []) = none
-pairs_of (a ∷ b ∷ s) = cond (ltb (pair_of a b) 256) (before (pair_of a b ∷ []) (pairs_of s)) none
+pairs_of [] = Some []
+pairs_of (a ∷ []) = None
+pairs_of (a ∷ b ∷ s) = cond (ltb (pair_of a b) 256) (before (pair_of a b ∷ []) (pairs_of s)) None
 
 -- how much was put at the start of out, and what
-unfoldable pub many : Count → ℕ
-many (count.Is n) = n
-many count.Bad = 0
+abbrev pub many : Option ℕ → ℕ
+many (Some n) = n
+many None = 0
 
-unfoldable pub put_by : Count → List ℕ → Option (List ℕ)
-put_by (count.Is n) out = some (take n out)
-put_by count.Bad out = none
+abbrev pub put_by : Option ℕ → List ℕ → Option (List ℕ)
+put_by (Some n) out = Some (take n out)
+put_by None out = None
 
 -- what was put is what was spelled, all of it; and nothing is spelled where it is bad
-pub record Put (r : Count) (spelled : Option (List ℕ)) (out : List ℕ) : Type 0 where
+pub record Put (r : Option ℕ) (spelled : Option (List ℕ)) (out : List ℕ) : Type 0 where
   pub within : many r ≤ length out
   pub same : put_by r out ≡ spelled
 
 -- an even count of digits, no more than there is room for
 unfoldable pub hex_of : ℕ → List ℕ → Option (List ℕ)
-hex_of room s = cond (eqb (length s % 2) 1) none (cond (ltb (room * 2) (length s)) none (pairs_of s))
+hex_of room s = cond (eqb (length s % 2) 1) None (cond (ltb (room * 2) (length s)) None (pairs_of s))
 
 -- of a field, "`-` for the empty one"
 unfoldable pub bytes_of : ℕ → List ℕ → Option (List ℕ)
 bytes_of room s =
-    cond (eqb (length s) 0) none
-    (cond (eqb (length s) 1) (cond (eqb (get_or s 0 0) 45) (some []) none) (hex_of room s))
+    cond (eqb (length s) 0) None
+    (cond (eqb (length s) 1) (cond (eqb (get_or s 0 0) 45) (Some []) None) (hex_of room s))
 
 -- the first n words of bytes
 unfoldable pub words_in : ℕ → List ℕ → List ℕ
@@ -93,11 +88,11 @@ words_in (suc n) b = words_in n b ++ (or_zero (read_be_u32 b (n * 4)) ∷ [])
 
 -- the bytes as words of four, no more than there is room for
 unfoldable pub gathered : ℕ → List ℕ → Option (List ℕ)
-gathered room b = cond (eqb (length b % 4) 0) (cond (leb (length b / 4) room) (some (words_in (length b / 4) b)) none) none
+gathered room b = cond (eqb (length b % 4) 0) (cond (leb (length b / 4) room) (Some (words_in (length b / 4) b)) None) None
 
-unfoldable pub gathered_of : ℕ → Option (List ℕ) → Option (List ℕ)
-gathered_of room none = none
-gathered_of room (some b) = gathered room b
+abbrev pub gathered_of : ℕ → Option (List ℕ) → Option (List ℕ)
+gathered_of room None = None
+gathered_of room (Some b) = gathered room b
 
 -- "hex words of 8 digits, row after row", of which the largest table has 3,584
 unfoldable pub words_of : ℕ → List ℕ → Option (List ℕ)

@@ -1,26 +1,26 @@
 // The fields of a line, each up to a space or the line's end.
-ghost use Rattle.std.specs.Prelude.{◌≡◌};
+ghost use Rattle.std.specs.Prelude.{◌≡◌, ◌==◌, position};
 ghost use Rattle.lines.specs.Fields.{Ends, first_of, rest_of, letter_of};
+
+// Where a byte first stands in s.
+pub(crate) fn find(s: &[u8], byte: u8) -> Option<usize>
+    ensures { result ≡ position (λ b. b == byte) s.now }
+{
+    s.iter().position(|b| *b == byte)
+}
 
 // Where the first field of s ends: at its first space, or where s ends.
 fn end(s: &[u8]) -> usize
     ensures { Ends s.now result }
 {
-    let mut i = 0;
-    while i < s.len() {
-        if s[i] == b' ' {
-            return i;
-        }
-        i += 1;
-    }
-    i
+    find(s, b' ').unwrap_or(s.len())
 }
 
 // The first field of s.
 pub fn first(s: &[u8]) -> &[u8]
     ensures { result.now ≡ first_of s.now }
 {
-    text::upto(s, end(s))
+    &s[..end(s)]
 }
 
 // What follows the first field of s and its space, empty where nothing does. No field is empty, so a missing one is bad.
@@ -29,7 +29,7 @@ pub fn rest(s: &[u8]) -> &[u8]
 {
     let end = end(s);
     if end == s.len() {
-        return &s[end..];
+        return &[];
     }
     &s[end + 1..]
 }
@@ -41,13 +41,13 @@ pub fn after_two(s: &[u8]) -> &[u8]
     rest(rest(s))
 }
 
-// The letter of a line, its first field; a space where that is not one byte.
+// The letter of a line, its first field; a space, which is no letter, where that is not one byte: so `letter_of` of specs/Fields says.
+#[tactic(auto, unfolding(crate::specs::Fields::letter_of))]
 pub fn letter(s: &[u8]) -> u8
     ensures { result ≡ letter_of s.now }
 {
-    let field = first(s);
-    if field.len() != 1 {
-        return b' ';
+    match first(s) {
+        [letter] => *letter,
+        _ => b' ',
     }
-    field[0]
 }

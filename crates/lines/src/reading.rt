@@ -1,105 +1,150 @@
-// The lines of standard input, gathered from what single reads gave.
-use crate::{Input, LINE, READ};
-use std::io::Read;
-use text::{Output, ROOM};
+// The lines of an input, gathered from what single reads gave, and their answers.
+ghost use Rattle.std.specs.Prelude.{◌≤◌, ◌≡◌, [], OnOk};
+ghost use Rattle.text.specs.Held.{waiting};
+ghost use Rattle.lines.specs.declared.TheConstants.{LINE, READ};
 
-// Nothing is read yet.
-pub fn start() -> Input {
-    Input {
-        at: 0,
-        read: 0,
-        len: 0,
-        whole: false,
-        going: true,
-    }
+use crate::fields::find;
+use crate::{LINE, READ};
+use std::io::{Read, Result, Write};
+use text::Output;
+
+// The line so far.
+#[derive(Drop)]
+struct Line {
+    bytes: [u8; LINE],
+    len: usize,
+    ghost inside: { len ≤ LINE },
 }
 
-// One read: how many bytes it gave. The end of the input, and a call that fails, give none.
-fn more(rt: &HostRuntime, buffer: &mut [u8; READ]) -> usize {
-    let mut input = rt.stdin();
-    input.read(buffer).unwrap_or(0)
-}
+impl Line {
+    ghost use Rattle.std.specs.Prelude.{◌≡◌, ◌++◌, take, []};
+    ghost use Rattle.lines.specs.Reading.{so_far};
 
-// A byte more of the line, which keeps what it has where it is full.
-fn append(line: &mut [u8; LINE], len: usize, b: u8) -> usize {
-    if LINE <= len {
-        return len;
-    }
-    line[len] = b;
-    len + 1
-}
-
-// The bytes given from a position on, up to their next line end, put behind the bytes of the line that are there.
-fn take(given: &[u8], from: usize, line: &mut [u8; LINE], have: usize) -> Input {
-    let mut at = from;
-    let mut len = have;
-    while at < given.len() {
-        let b = given[at];
-        at += 1;
-        if b == b'\n' {
-            return Input {
-                at,
-                read: given.len(),
-                len,
-                whole: true,
-                going: true,
-            };
+    fn new() -> Line
+        ensures { so_far result ≡ [] }
+    {
+        Line {
+            bytes: [0; LINE],
+            len: 0,
         }
-        len = append(line, len, b);
     }
-    Input {
-        at,
-        read: given.len(),
-        len,
-        whole: false,
-        going: true,
+
+    fn as_slice(&self) -> &[u8]
+        ensures { result.now ≡ so_far self.now }
+    {
+        &self.bytes[..self.len]
+    }
+
+    // Bytes more, and where it is full it keeps what it has.
+    fn append(&mut self, more: &[u8])
+        ensures { so_far self.new ≡ take LINE (so_far self.old ++ more.now) }
+    {
+        let n = more.len().min(LINE - self.len);
+        let end = self.len + n;
+        self.bytes[self.len..end].copy_from_slice(&more[..n]);
+        self.len = end;
+    }
+
+    fn clear(&mut self)
+        ensures { so_far self.new ≡ [] }
+    {
+        self.len = 0;
     }
 }
 
-// How many bytes of the line stay: a whole one was answered, and the next begins.
-fn kept(input: Input) -> usize {
-    if input.whole {
-        return 0;
-    }
-    input.len
+// An input, and what its last read gave: the bytes from `at` up to `end` are still to be taken.
+#[derive(Drop)]
+struct Input<R> {
+    from: R,
+    bytes: [u8; READ],
+    at: usize,
+    end: usize,
+    ghost inside: { (at ≤ end) × (end ≤ READ) },
 }
 
-// What the end of the input leaves: a last line without its line end counts if it isn't empty.
-fn last(len: usize) -> Input {
-    Input {
-        at: 0,
-        read: 0,
-        len,
-        whole: 0 < len,
-        going: false,
+impl<R: Read> Input<R> {
+    ghost use Rattle.std.specs.Prelude.{◌≡◌, ◌<◌, ◌↔◌, ◌++◌, ◌==◌, IsTrue, length, take, [], is_some, position};
+    ghost use Rattle.std.specs.List.{before_first, after_first};
+    ghost use Rattle.lines.specs.Reading.{left, so_far};
+
+    // Nothing is read yet.
+    fn new(from: R) -> Input<R>
+        ensures { left result ≡ [] }
+    {
+        Input {
+            from,
+            bytes: [0; READ],
+            at: 0,
+            end: 0,
+        }
+    }
+
+    fn left(&self) -> &[u8]
+        ensures { result.now ≡ left self.now }
+    {
+        &self.bytes[self.at..self.end]
+    }
+
+    // One read, where all that was read is taken: whether it gave anything. The end of the input, and a call that fails, give nothing.
+    fn read(&mut self) -> bool
+        ensures { IsTrue result ↔ (0 < length (left self.new)) }
+    {
+        self.at = 0;
+        self.end = self.from.read(&mut self.bytes).unwrap_or(0);
+        0 < self.end
+    }
+
+    // Goes on to the line's end, or to the end of what is read. Whether the line is whole.
+    fn take(&mut self, line: &mut Line) -> bool
+        ensures line { so_far line.new ≡ take LINE (so_far line.old ++ before_first (λ b. b == 10) (left self.old)) }
+        ensures left { left self.new ≡ after_first (λ b. b == 10) (left self.old) }
+        ensures whole { result ≡ is_some (position (λ b. b == 10) (left self.old)) }
+    {
+        let left = self.left();
+        match find(left, b'\n') {
+            Some(n) => {
+                line.append(&left[..n]);
+                self.at += n + 1;
+                true
+            }
+            None => {
+                line.append(left);
+                self.at = self.end;
+                false
+            }
+        }
     }
 }
 
-// Goes on to the line's end, or to the end of what is read. Where all of that was taken, reads anew.
-pub fn next(
-    rt: &HostRuntime,
-    buffer: &mut [u8; READ],
-    line: &mut [u8; LINE],
-    from: Input,
-) -> Input {
-    let len = kept(from);
-    let at = from.at;
-    let read = from.read;
-    if at < read {
-        return take(text::upto(buffer, read), at, line, len);
+// Answers each line by one line. Whenever all that was read is taken, the answers go out.
+// A last line without its line end counts if it isn't empty.
+pub fn answer_all<R: Read + Drop, W: Write, F: FnMut(&[u8], &mut Output<W>) -> Result<()>>(
+    from: R,
+    out: &mut Output<W>,
+    mut answer: F,
+) -> Result<()>
+    requires { F.IsAlwaysCallable answer }
+    ensures { OnOk result (waiting out.new ≡ []) }
+{
+    let mut input = Input::new(from);
+    let mut line = Line::new();
+    // A proved loop has to end, and nothing says that the input does: a count of turns that no run uses up.
+    for _ in 0..u64::MAX {
+        if input.left().is_empty() {
+            out.flush()?;
+            if !input.read() {
+                break;
+            }
+        }
+        if input.take(&mut line) {
+            answer(line.as_slice(), out)?;
+            out.write_all(b"\n")?;
+            line.clear();
+        }
     }
-    let read = more(rt, buffer);
-    if read == 0 {
-        return last(len);
+    if !line.as_slice().is_empty() {
+        answer(line.as_slice(), out)?;
+        out.write_all(b"\n")?;
     }
-    take(text::upto(buffer, read), 0, line, len)
-}
-
-// The line end of an answer. Where all that was read is taken, the answers go out.
-pub fn finish(rt: &HostRuntime, text: &mut [u8; ROOM], out: Output, input: Input) -> Output {
-    let ended = text::byte(rt, text, out, b'\n');
-    if input.at < input.read {
-        return ended;
-    }
-    text::flush(rt, text, ended)
+    out.flush()
 }

@@ -8,7 +8,6 @@ use native.Mathlib.Nat.{add-zero, add_assoc}
 use mathlib.Core.List.{List}
 use lib.ListN.{length, set, length-append}
 use lib.Seq.{sets, length-sets}
-use borrow.Author.Tests.{eq-eqb, ne_eqb}
 use Rattle.format.specs.Answer.{or_zero, or_empty}
 use Rattle.format.specs.Bytes.{big_endian, word_at, align}
 use Rattle.format.specs.Format.{NONE, BEGIN_NODE, END_NODE, PROP, node_width, property_width}
@@ -16,17 +15,20 @@ use Rattle.format.specs.Tree.{Property, Node, node, Nodes, none, ◌&◌, depth,
 use Rattle.format.specs.Encodes.{GoodProperties, GoodNode, GoodNodes, Block, PropertiesAt, NodeAt, NodesAt, after_properties, after_name, after_node, after_nodes}
 use Rattle.format.specs.Read.{read_be_u32, read_bstring0, Read}
 use Rattle.format.specs.Rows.{first_row, node_rows, nodes_rows, property_rows, node_properties, nodes_properties, node_numbers, property_numbers}
-use Rattle.format.proofs.Tools.{if_yes, if_no}
 use Rattle.format.proofs.Answer.{ok_same}
 use Rattle.format.proofs.Read.{read_string}
 use Rattle.format.proofs.Complete.{begins, node_complete, nodes_complete}
 use Rattle.format.proofs.Rows.{node_properties_lem, properties_length, first_then_later}
+use Rattle.reader.specs.declared.Token.{Token}
+use Rattle.reader.specs.declared.Token.TheVariants.{BeginNode}
+use Rattle.reader.specs.Outcomes.{token_of}
 use Rattle.reader.proofs.Numbers.{word_total}
 use Rattle.reader.proofs.Outcomes.{or_empty_lem}
 use Rattle.loader.specs.Pass.{string_length, PropsHere, props_after, first_at, child_row, head_numbers}
 use Rattle.loader.specs.Pass.{NodesHere, NodeHere, State, node_after, nodes_after}
 use Rattle.loader.proofs.RowLaws.{relink, properties_then}
 use Rattle.loader.proofs.PropLaws.{token_is}
+use Rattle.loader.proofs.TokenLaws.{begin_word, begin_token}
 
 -- ---- what stands at a node
 
@@ -132,21 +134,21 @@ module _ {b : List ℕ} {strings : Block} where
 
   -- ---- what is written
 
-  first_child : {p : ℕ} (row : ℕ) (ns : Nodes) → NodesHere b strings p ns → child_row (word_at b p) row ≡ first_row ns row
-  unfolding child_row first_row BEGIN_NODE END_NODE
-  first_child {p} row none h = if_no _ _ (ne_eqb (word_at b p) 1 (λ e. omega (arith, token_none h, word_total b p (token_inside none h))))
-  first_child {p} row (n & ns) h = if_yes _ _ (eq-eqb _ _ (sym (word_total b p (token_inside (n & ns) h)) ∙ token_some h))
+  first_child : {p : ℕ} (row : ℕ) (ns : Nodes) → NodesHere b strings p ns → child_row (token_of (word_at b p)) row ≡ first_row ns row
+  unfolding first_row child_row token_of BEGIN_NODE END_NODE PROP
+  first_child {p} row none h = rw (sym (word_total b p (token_inside none h)) ∙ token_none h) refl
+  first_child {p} row (n & ns) h = rw (sym (word_total b p (token_inside (n & ns) h)) ∙ token_some h) refl
 
   -- the next sibling's row, stored where the token after a node opens one
-  pub linked : (n : Node) (rest : Nodes) (p row prow parent : ℕ) (t : List ℕ) {token next : ℕ} {t' t'' : List ℕ}
-      → NodesHere b strings (after_node p n) rest → token ≡ or_zero (read_be_u32 b (after_node p n)) → next ≡ row + node_count n
+  pub linked : (n : Node) (rest : Nodes) (p row prow parent : ℕ) (t : List ℕ) {token : Token} {next : ℕ} {t' t'' : List ℕ}
+      → NodesHere b strings (after_node p n) rest → token ≡ token_of (or_zero (read_be_u32 b (after_node p n))) → next ≡ row + node_count n
       → t' ≡ sets t (node_width * row) (node_numbers (node_rows n p row prow parent NONE))
-      → (token ≡ BEGIN_NODE → t'' ≡ set t' (node_width * row + 4) next) × (token ≢ BEGIN_NODE → t'' ≡ t')
+      → (token ≡ BeginNode → t'' ≡ set t' (node_width * row + 4) next) × (token ≢ BeginNode → t'' ≡ t')
       → t'' ≡ sets t (node_width * row) (node_numbers (node_rows n p row prow parent (first_row rest (row + node_count n))))
   unfolding first_row BEGIN_NODE END_NODE
-  linked n none p row prow parent t here is_token is_next wrote link = link.1 (λ e. omega (arith, token_none here)) ∙ wrote
+  linked n none p row prow parent t here is_token is_next wrote link = link.1 (λ e. omega (arith, token_none here, begin_word is_token e)) ∙ wrote
   linked n (m & ms) p row prow parent t {token} {next} here is_token is_next wrote link =
-      link.0 (is_token ∙ token_some here) ∙ ap (λ l. set l (node_width * row + 4) next) wrote ∙ relink n p row prow parent NONE next t ∙ rw is_next
+      link.0 (begin_token is_token (token_some here)) ∙ ap (λ l. set l (node_width * row + 4) next) wrote ∙ relink n p row prow parent NONE next t ∙ rw is_next
 
 -- a state at the end of a node's children, past the node's closing token
 unfoldable pub closed : State → State

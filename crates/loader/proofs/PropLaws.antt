@@ -22,16 +22,16 @@ use Rattle.format.proofs.Complete.{properties_complete}
 use Rattle.reader.proofs.Numbers.{word_total}
 use Rattle.reader.proofs.Outcomes.{or_zero_lem, or_empty_lem}
 use Rattle.reader.proofs.Rounding.{aligned_total}
-use Rattle.loader.specs.Pass.{string_length, name_start, name_length, PropReady, prop_numbers, PropsHere, PropsReady, PropsState, props_after}
+use Rattle.loader.specs.Pass.{string_length, name_start, name_length, PropReady, prop_numbers, PropsHere, PropsReady, props_after}
 
 -- ---- one property: the numbers that were read are those of its row
 
-module _ {b : List ℕ} {strings : Block} {p row : ℕ} {table : List ℕ} (h : PropReady b strings p row table) where
+module _ {b : List ℕ} {strings : Block} {p row : ℕ} {table : List ℕ} (small : length b < 2 ^ 32) (h : PropReady b strings p row table) where
   prop_size : {size : ℕ} → size ≡ or_zero (read_be_u32 b (p + 4)) → size ≡ word_at b (p + 4)
   prop_size e = e ∙ word_total b (p + 4) (omega (arith, h.inside))
 
   pub prop_next : {size next : ℕ} → size ≡ or_zero (read_be_u32 b (p + 4)) → next ≡ or_else (p + 12 + size) (aligned (p + 12 + size) 4) → next ≡ align (p + 12 + word_at b (p + 4)) 4
-  prop_next e k = k ∙ ap (λ n. or_else (p + 12 + n) (aligned (p + 12 + n) 4)) (prop_size e) ∙ aligned_total (p + 12 + word_at b (p + 4)) (omega (arith, h.inside, h.small))
+  prop_next e k = k ∙ ap (λ n. or_else (p + 12 + n) (aligned (p + 12 + n) 4)) (prop_size e) ∙ aligned_total (p + 12 + word_at b (p + 4)) (omega (arith, h.inside, small))
 
   pub prop_name : {offset : ℕ} → offset ≡ or_zero (read_be_u32 b (p + 8)) → strings.start + offset ≡ name_start b strings p
   unfolding name_start
@@ -141,10 +141,8 @@ module _ (b : List ℕ) (strings : Block) where
 pub record PropsInv (b : List ℕ) (strings : Block) (pos row : ℕ) (table₀ : List ℕ) (p r : ℕ) (table : List ℕ) : Type 0 where
   pub rest : List Property
   pub here : PropsHere b strings p rest
-  pub ends : strings.end ≤ length b
   pub room : property_width * (r + length rest) ≤ length table
   pub few : r + length rest < 2 ^ 32
-  pub small : length b < 2 ^ 32
   pub same : (xs : List Property) → PropsHere b strings pos xs → props_after b strings rest p r table ≡ props_after b strings xs pos row table₀
 
 module _ {b : List ℕ} {strings : Block} {pos row : ℕ} {table₀ : List ℕ} where
@@ -152,10 +150,8 @@ module _ {b : List ℕ} {strings : Block} {pos row : ℕ} {table₀ : List ℕ} 
   props_start h = record {
     rest = h.xs;
     here = h.here;
-    ends = h.ends;
     room = h.room;
     few = h.few;
-    small = h.small;
     same = λ xs k. ap (λ ys. props_after b strings ys pos row table₀) (props_unique h.here k);
   }
 
@@ -164,12 +160,6 @@ module _ {b : List ℕ} {strings : Block} {pos row : ℕ} {table₀ : List ℕ} 
         → record { next = p; row = r; table = table } ≡ props_after b strings xs pos row table₀
     props_end n xs k =
         sym (after_none b strings p r table) ∙ ap (λ ys. props_after b strings ys p r table) (sym (props_none inv.rest inv.here n)) ∙ inv.same xs k
-
-    pub props_long_lem : PropsReady b strings pos row table₀ → length table ≡ length table₀
-    props_long_lem h =
-        sym (after_long b strings inv.rest p r table)
-        ∙ ap (λ (s : PropsState). length s.table) (inv.same h.xs h.here)
-        ∙ after_long b strings h.xs pos row table₀
 
     module _ (token : or_zero (read_be_u32 b p) ≡ PROP) where
       more : PropsMore b strings p inv.rest
@@ -182,13 +172,8 @@ module _ {b : List ℕ} {strings : Block} {pos row : ℕ} {table₀ : List ℕ} 
           record {
             inside = omega (arith, facts.size_is, facts.inside);
             name_inside = omega (arith, facts.name_is, facts.name_inside);
-            ends = inv.ends;
             room = omega (arith, inv.room, more.size_is);
-            small = inv.small;
           }
-
-      pub props_few : r + 1 < 2 ^ 32
-      props_few = omega (arith, inv.few, more.size_is)
 
       module _ {q : ℕ} (next : q ≡ align (p + 12 + word_at b (p + 4)) 4) where
         pub props_less : length b + 4 - q < length b + 4 - p
@@ -198,20 +183,18 @@ module _ {b : List ℕ} {strings : Block} {pos row : ℕ} {table₀ : List ℕ} 
         unfolding after_property
         after = sym (next ∙ ap (λ n. align (p + 12 + n) 4) more.facts.size_is)
 
-        pub props_again : {table' : List ℕ} → table' ≡ sets table (property_width * r) (prop_numbers b strings p) → PropsInv b strings pos row table₀ q (r + 1) table'
-        props_again {table'} e =
+        pub props_again : {r' : ℕ} {table' : List ℕ} → r' ≡ r + 1 → table' ≡ sets table (property_width * r) (prop_numbers b strings p) → PropsInv b strings pos row table₀ q r' table'
+        props_again {r'} {table'} up e =
             let stored : sets table (property_width * r) (property_numbers (property_row b strings.start p more.x ∷ [])) ≡ table' =
             sym (e ∙ ap (sets table (property_width * r)) (prop_row more.x more.facts)) in
             let long : length table' ≡ length table = ap length e ∙ length-sets table (property_width * r) (prop_numbers b strings p) in
-            let left : r + length inv.rest ≡ r + 1 + length more.rest = omega (arith, more.size_is) in
+            let left : r + length inv.rest ≡ r' + length more.rest = omega (arith, up, more.size_is) in
             record {
               rest = more.rest;
               here = rw after at more.here;
-              ends = inv.ends;
               room = rw (long, ← left) inv.room;
               few = rw (← left) inv.few;
-              small = inv.small;
               same = λ xs k.
-                  rw (← after, ← stored) (sym (after_more b strings more.x more.rest p r table))
+                  rw (← after, up, ← stored) (sym (after_more b strings more.x more.rest p r table))
                   ∙ ap (λ ys. props_after b strings ys p r table) (sym more.is) ∙ inv.same xs k;
             }

@@ -1,12 +1,11 @@
 -- The rows of the reservation list that are left to store, a turn at a time. Assumes nothing.
 use mathlib.Core.Path.{◌≡◌, refl, sym, ap, ◌∙◌}
 use mathlib.Core.Logic.{◌≢◌}
-use Prim.Native.Nat.{ℕ, ◌+◌, ◌*◌, ◌≤◌}
+use Prim.Native.Nat.{ℕ, suc, ◌+◌, ◌*◌, ◌≤◌}
 use native.Mathlib.Omega.{arith}
-use native.Mathlib.Numerals.{add-one, add-two}
 use mathlib.Core.List.{List, [], ◌∷◌}
-use lib.ListN.{length, set, length-set}
-use lib.Seq.{sets}
+use lib.ListN.{length}
+use lib.Seq.{sets, length-sets}
 use borrow.Author.Tests.{eqb-true, eqb-false}
 use Rattle.format.specs.Choice.{when◌then◌else◌}
 use Rattle.format.specs.Format.{reservation_width}
@@ -37,13 +36,13 @@ record Front (b : List ℕ) (p : ℕ) (rs : List Reservation) : Type 0 where
   size : read_be_u64 b (p + 8) ≡ ok first.size
   after : Later b p first rs
 
--- The list from p on is left to store, from `at` on in the table; with it the table is what the list from pos on makes of the first table.
-pub record StoreLeft (b : List ℕ) (pos : ℕ) (table₀ : List ℕ) (p at : ℕ) (table : List ℕ) : Type 0 where
+-- The list from p on is left to store, from a row on in the table; with it the table is what the list from pos on makes of the first table.
+pub record StoreLeft (b : List ℕ) (pos row₀ : ℕ) (table₀ : List ℕ) (p row : ℕ) (table : List ℕ) : Type 0 where
   pub rest : List Reservation
   pub here : listed b p ≡ ok rest
-  pub room : at + 2 * length rest ≤ length table
+  pub room : reservation_width * (row + length rest) ≤ length table
   pub long : length table ≡ length table₀
-  pub same : (rs : List Reservation) → listed b pos ≡ ok rs → sets table at (reservation_numbers rest) ≡ sets table₀ 0 (reservation_numbers rs)
+  pub same : (rs : List Reservation) → listed b pos ≡ ok rs → sets table (reservation_width * row) (reservation_numbers rest) ≡ sets table₀ (reservation_width * row₀) (reservation_numbers rs)
 
 module _ (b : List ℕ) where
   -- ---- a list that stands there
@@ -71,51 +70,52 @@ module _ (b : List ℕ) where
 
   -- ---- the stores
 
-  pub store_start : (pos : ℕ) (table : List ℕ) → StoreReady b pos table → StoreLeft b pos table pos 0 table
-  unfolding reservation_width
-  store_start pos table h = record {
+  pub store_start : (pos row : ℕ) (table : List ℕ) → StoreReady b pos row table → StoreLeft b pos row table pos row table
+  store_start pos row table h = record {
     rest = h.rs;
     here = h.here;
-    room = omega (arith, h.room);
+    room = h.room;
     long = refl;
-    same = λ rs k. ap (λ rs. sets table 0 (reservation_numbers rs)) (ok_same (sym h.here ∙ k));
+    same = λ rs k. ap (λ rs. sets table (reservation_width * row) (reservation_numbers rs)) (ok_same (sym h.here ∙ k));
   }
 
-  module _ {pos : ℕ} {table₀ : List ℕ} {p at : ℕ} {table : List ℕ} (left : StoreLeft b pos table₀ p at table) where
+  module _ {pos row₀ : ℕ} {table₀ : List ℕ} {p row : ℕ} {table : List ℕ} (left : StoreLeft b pos row₀ table₀ p row table) where
     found : Front b p left.rest
     found = front p left.rest left.here
 
     pub store_inside : p + 16 ≤ length b
     store_inside = omega (arith, read_inside b 8 (p + 8) found.size)
 
-    pub store_room : at + 2 ≤ length table
+    pub store_room : reservation_width * (row + 1) ≤ length table
+    unfolding reservation_width
     store_room = omega (arith, left.room, ap (λ (l : List Reservation). length l) found.after.is)
 
     -- the row that the code stores is the first of the list
     module _ {offset size : ℕ} (isOffset : offset ≡ or_zero (read_be_u64 b p)) (isSize : size ≡ or_zero (read_be_u64 b (p + 8))) where
       abbrev stored : List ℕ
-      stored = set (set table at offset) (at + 1) size
+      stored = sets table (reservation_width * row) (offset ∷ size ∷ [])
 
       size_is : size ≡ found.first.size
       size_is = isSize ∙ or_zero_lem found.size
 
-      row : stored ≡ set (set table at found.first.offset) (at + 1) found.first.size
-      row = rw (isOffset ∙ or_zero_lem found.offset, size_is)
+      is_first : stored ≡ sets table (reservation_width * row) (found.first.offset ∷ found.first.size ∷ [])
+      is_first = rw (isOffset ∙ or_zero_lem found.offset, size_is) refl
 
-      pub store_last : size ≡ 0 → (rs : List Reservation) → listed b pos ≡ ok rs → stored ≡ sets table₀ 0 (reservation_numbers rs)
+      pub store_last : size ≡ 0 → (rs : List Reservation) → listed b pos ≡ ok rs → stored ≡ sets table₀ (reservation_width * row₀) (reservation_numbers rs)
       unfolding reservation_numbers
       store_last e rs k =
           let whole : left.rest ≡ found.first ∷ [] = found.after.is ∙ ap (λ l. found.first ∷ l) (found.after.ends (sym size_is ∙ e)) in
-          row ∙ rw add-one (ap (λ l. sets table at (reservation_numbers l)) (sym whole) ∙ left.same rs k)
+          is_first ∙ ap (λ l. sets table (reservation_width * row) (reservation_numbers l)) (sym whole) ∙ left.same rs k
 
-      pub store_again : size ≢ 0 → StoreLeft b pos table₀ (p + 16) (at + 2) stored
-      unfolding reservation_numbers
-      store_again n =
-          let kept : length stored ≡ length table = simp length-set in
+      pub store_again : size ≢ 0 → {row' : ℕ} {table' : List ℕ} → row' ≡ row + 1 → table' ≡ stored → StoreLeft b pos row₀ table₀ (p + 16) row' table'
+      unfolding reservation_numbers reservation_width
+      store_again n {table' = table'} up is_stored =
+          let kept : length table' ≡ length table = ap length is_stored ∙ length-sets table (reservation_width * row) (offset ∷ size ∷ []) in
+          let at : reservation_width * (row + 1) ≡ suc (suc (reservation_width * row)) = omega arith in
           record {
             rest = found.after.later;
             here = found.after.goes (λ e. n (size_is ∙ e));
-            room = omega (arith, left.room, ap (λ (l : List Reservation). length l) found.after.is);
+            room = omega (arith, up, kept, left.room, ap (λ (l : List Reservation). length l) found.after.is);
             long = kept ∙ left.long;
-            same = λ rs k. rw (row, add-one at, add-two at) (ap (λ l. sets table at (reservation_numbers l)) (sym found.after.is) ∙ left.same rs k);
+            same = λ rs k. rw (is_stored ∙ is_first, up, at) (ap (λ l. sets table (reservation_width * row) (reservation_numbers l)) (sym found.after.is) ∙ left.same rs k);
           }

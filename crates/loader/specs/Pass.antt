@@ -1,18 +1,18 @@
 -- The writing pass: over what, into what room, and what it leaves. It runs over a blob that the checking pass accepted, so each
--- statement speaks of the tree that stands there.
-use Rattle.std.specs.Prelude.{◌≡◌, ◌≢◌, ℕ, ◌+◌, ◌*◌, ◌≤◌, ◌<◌, ◌^◌, List, [], ◌∷◌, eqb, length, take}
+-- statement speaks of the tree that stands there. That the blob is small is known of each `Blob`.
+use Rattle.std.specs.Prelude.{◌≡◌, ◌≢◌, ℕ, ◌+◌, ◌*◌, ◌≤◌, ◌<◌, ◌^◌, List, [], ◌∷◌, length, take}
 use Rattle.std.proofs.lemmas.List.Edits.{sets}
-use Rattle.format.specs.Choice.{when◌then◌else◌}
 use Rattle.format.specs.Answer.{or_empty}
 use Rattle.format.specs.Bytes.{Has, word, word_at, align}
-use Rattle.format.specs.Format.{NONE, BEGIN_NODE, END_NODE, PROP, node_width, property_width}
+use Rattle.format.specs.Format.{NONE, END_NODE, PROP, node_width, property_width}
 use Rattle.format.specs.Tree.{Property, Node, Nodes, depth, node_count, node_counts, property_count, property_counts}
 use Rattle.format.specs.Encodes.{GoodProperties, GoodNode, GoodNodes, after_properties, after_node, after_nodes, PropertiesAt, NodeAt, NodesAt}
 use Rattle.format.specs.Encodes as encodes
 use Rattle.format.specs.Read.{read_bstring0}
+use Rattle.reader.specs.declared.Token.{Token}
+use Rattle.reader.specs.declared.Token.TheVariants.{BeginNode, EndNode, Prop, Other}
+use Rattle.reader.specs.Outcomes.{token_of}
 use Rattle.format.specs.Rows.{node_rows, nodes_rows, property_rows, node_properties, nodes_properties, node_numbers, property_numbers}
-use Rattle.loader.specs.declared.write.Props.{Props}
-use Rattle.loader.specs.declared.write.Passed.{Passed}
 
 -- the length of the string at p, 0 where there is none: what the total reader gives
 unfoldable pub string_length : List ℕ → ℕ → ℕ
@@ -31,9 +31,7 @@ name_length b strings p = string_length (take strings.end b) (name_start b strin
 pub record PropReady (b : List ℕ) (strings : encodes.Block) (p row : ℕ) (table : List ℕ) : Type 0 where
   pub inside : p + 12 + word_at b (p + 4) < length b
   pub name_inside : name_start b strings p + name_length b strings p < length b
-  pub ends : strings.end ≤ length b
   pub room : property_width * (row + 1) ≤ length table
-  pub small : length b < 2 ^ 32
 
 unfoldable pub prop_numbers : List ℕ → encodes.Block → ℕ → List ℕ
 prop_numbers b strings p = name_start b strings p ∷ name_length b strings p ∷ (p + 12) ∷ word_at b (p + 4) ∷ []
@@ -50,10 +48,8 @@ pub record PropsHere (b : List ℕ) (strings : encodes.Block) (p : ℕ) (xs : Li
 pub record PropsReady (b : List ℕ) (strings : encodes.Block) (p row : ℕ) (table : List ℕ) : Type 0 where
   pub xs : List Property
   pub here : PropsHere b strings p xs
-  pub ends : strings.end ≤ length b
   pub room : property_width * (row + length xs) ≤ length table
   pub few : row + length xs < 2 ^ 32
-  pub small : length b < 2 ^ 32
 
 -- where a pass over properties has come: the next position, the next row, the table
 pub record PropsState : Type 0 where
@@ -61,8 +57,8 @@ pub record PropsState : Type 0 where
   pub row : ℕ
   pub table : List ℕ
 
-unfoldable pub props_state : Props → List ℕ → PropsState
-props_state r table = record { next = r.next; row = r.row; table = table }
+unfoldable pub props_state : ℕ → ℕ → List ℕ → PropsState
+props_state next row table = record { next = next; row = row; table = table }
 
 unfoldable pub props_after : List ℕ → encodes.Block → List Property → ℕ → ℕ → List ℕ → PropsState
 props_after b strings xs p row table = record {
@@ -80,24 +76,26 @@ first_at b p = align (p + 4 + string_length b (p + 4) + 1) 4
 pub record HeadReady (b : List ℕ) (strings : encodes.Block) (p row prow : ℕ) (nodes props : List ℕ) : Type 0 where
   pub xs : List Property
   pub here : PropsHere b strings (first_at b p) xs
-  pub ends : strings.end ≤ length b
   pub name_inside : p + 4 + string_length b (p + 4) < length b
   pub node_room : node_width * (row + 1) ≤ length nodes
   pub prop_room : property_width * (prow + length xs) ≤ length props
   pub node_few : row + 1 < 2 ^ 32
   pub prop_few : prow + length xs < 2 ^ 32
-  pub small : length b < 2 ^ 32
 
 -- the row of a first child, if the token there opens one
-unfoldable pub child_row : ℕ → ℕ → ℕ
-child_row token row = when eqb token BEGIN_NODE then row else NONE
+unfoldable pub child_row : Token → ℕ → ℕ
+child_row BeginNode row = row
+child_row EndNode row = NONE
+child_row Prop row = NONE
+child_row (Other n) row = NONE
 
 unfoldable pub head_numbers : List ℕ → List Property → ℕ → ℕ → ℕ → ℕ → List ℕ
 head_numbers b xs p row prow parent =
-    (p + 4) ∷ string_length b (p + 4) ∷ parent ∷ child_row (word_at b (after_properties (first_at b p) xs)) (row + 1) ∷ NONE ∷ prow ∷ length xs ∷ []
+    (p + 4) ∷ string_length b (p + 4) ∷ parent ∷ child_row (token_of (word_at b (after_properties (first_at b p) xs))) (row + 1) ∷ NONE ∷ prow ∷ length xs ∷ []
 
-pub record HeadDone (b : List ℕ) (strings : encodes.Block) (xs : List Property) (p row prow parent : ℕ) (nodes props : List ℕ) (r : Props) (nodes' props' : List ℕ) : Type 0 where
-  pub own : props_state r props' ≡ props_after b strings xs (first_at b p) prow props
+pub record HeadDone (b : List ℕ) (strings : encodes.Block) (xs : List Property) (p row prow parent : ℕ) (nodes props : List ℕ) (next row' prow' : ℕ) (nodes' props' : List ℕ) : Type 0 where
+  pub own : props_state next prow' props' ≡ props_after b strings xs (first_at b p) prow props
+  pub row_is : row' ≡ row + 1
   pub stored : nodes' ≡ sets nodes (node_width * row) (head_numbers b xs p row prow parent)
 
 -- ---- nodes
@@ -117,13 +115,11 @@ pub record NodeHere (b : List ℕ) (strings : encodes.Block) (p : ℕ) (n : Node
 pub record NodeReady (b : List ℕ) (strings : encodes.Block) (depthLeft p row prow : ℕ) (nodes props : List ℕ) : Type 0 where
   pub tree : Node
   pub here : NodeHere b strings p tree
-  pub ends : strings.end ≤ length b
   pub deep : depth tree ≤ depthLeft
   pub node_room : node_width * (row + node_count tree) ≤ length nodes
   pub prop_room : property_width * (prow + property_count tree) ≤ length props
   pub node_few : row + node_count tree < 2 ^ 32
   pub prop_few : prow + property_count tree < 2 ^ 32
-  pub small : length b < 2 ^ 32
 
 -- where a pass over nodes has come: the next position, the next rows, the tables
 pub record State : Type 0 where
@@ -133,8 +129,8 @@ pub record State : Type 0 where
   pub nodes : List ℕ
   pub props : List ℕ
 
-unfoldable pub passed : Passed → List ℕ → List ℕ → State
-passed r nodes props = record { next = r.next; row = r.row; prow = r.prow; nodes = nodes; props = props }
+unfoldable pub passed : ℕ → ℕ → ℕ → List ℕ → List ℕ → State
+passed next row prow nodes props = record { next = next; row = row; prow = prow; nodes = nodes; props = props }
 
 unfoldable pub node_after : List ℕ → encodes.Block → Node → ℕ → ℕ → ℕ → ℕ → ℕ → List ℕ → List ℕ → State
 node_after b strings n p row prow parent sibling nodes props = record {

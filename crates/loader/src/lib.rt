@@ -3,13 +3,7 @@
 
 mod loading;
 mod reserve;
+mod table;
 mod write;
 
 pub use loading::{load, measure};
-use survey::{DeviceTree, DeviceTreeError};
-
-#[derive(Clone, Copy)]
-pub enum Loaded {
-    Tree(DeviceTree),
-    Refused(DeviceTreeError),
-}

@@ -1,213 +1,139 @@
 // The writing pass, over a blob that the checking pass accepted.
-ghost use Rattle.std.specs.Prelude.{◌≡◌, ◌≢◌, ◌≤◌, ◌+◌, ◌*◌, List, [], ◌∷◌, length, set};
+ghost use Rattle.std.specs.Prelude.{◌≡◌, ◌≢◌, ◌≤◌, ◌+◌, ◌*◌, List, length, set};
 ghost use Rattle.std.proofs.lemmas.List.Edits.{sets};
 ghost use Rattle.format.specs.Bytes.{word_at};
 ghost use Rattle.format.specs.Bytes as bytes;
-ghost use Rattle.format.specs.Format.{BEGIN_NODE, node_width, property_width};
+ghost use Rattle.format.specs.Format.{node_width, property_width};
 ghost use Rattle.format.specs.Format as format;
 ghost use Rattle.format.specs.Tree.{Property, Node};
+ghost use Rattle.reader.specs.declared.Token.TheVariants.{BeginNode};
 ghost use Rattle.survey.specs.Nodes.{block};
 ghost use Rattle.loader.specs.Pass.{PropReady, prop_numbers, PropsHere, PropsReady, props_state, props_after};
 ghost use Rattle.loader.specs.Pass.{HeadReady, first_at, child_row, HeadDone, NodeHere, NodeReady, passed, node_after};
 
+use crate::table::Table;
 use format::{NODE_WIDTH, NONE, PROPERTY_WIDTH};
-use reader::Token;
-use survey::{ALIGNED, Block, NAME_AT, OFFSET_AT, SIZE_AT, TOKEN, VALUE_AT};
+use reader::{Token, aligned, number_at, string_len};
+use survey::{ALIGNED, Blob, NAME_AT, OFFSET_AT, SIZE_AT, TOKEN, VALUE_AT};
 
-// What follows properties that were written, and the row after theirs.
-#[derive(Clone, Copy)]
-struct Props {
-    next: usize,
-    row: usize,
-}
-
-// What follows a node that was written, and the rows after its nodes' and its properties'.
-#[derive(Clone, Copy)]
-pub(crate) struct Passed {
-    next: usize,
-    row: usize,
-    prow: usize,
-}
-
-// The numbers of a row, in the table's order.
-#[derive(Clone, Copy)]
-struct NodeRow {
-    name: u32,
-    len: u32,
-    parent: u32,
-    child: u32,
-    first: u32,
-    count: u32,
-}
-
-// Where a row has its next sibling.
+// Where a node's row has its next sibling.
 const SIBLING: usize = 4;
 
-// ---- stores
-
-fn put_prop(table: &mut [u32], row: usize, name: u32, len: u32, value: u32, size: u32)
-    requires { property_width * (row + 1) ≤ length table.old }
-    ensures { table.new ≡ sets table.old (property_width * row) (name ∷ len ∷ value ∷ size ∷ []) }
-{
-    let at = PROPERTY_WIDTH * row;
-    table[at] = name;
-    table[at + 1] = len;
-    table[at + 2] = value;
-    table[at + 3] = size;
-}
-
-// A node's row, with no next sibling yet.
-fn put_node(table: &mut [u32], row: usize, x: NodeRow)
-    requires { node_width * (row + 1) ≤ length table.old }
-    ensures { table.new ≡ sets table.old (node_width * row) (x.name ∷ x.len ∷ x.parent ∷ x.child ∷ format.NONE ∷ x.first ∷ x.count ∷ []) }
-{
-    let at = NODE_WIDTH * row;
-    table[at] = x.name;
-    table[at + 1] = x.len;
-    table[at + 2] = x.parent;
-    table[at + 3] = x.child;
-    table[at + SIBLING] = NONE;
-    table[at + 5] = x.first;
-    table[at + 6] = x.count;
-}
-
 // The next sibling of the node of a row, where the token after that node opens one.
-fn link(table: &mut [u32], row: usize, token: u32, next: u32)
+#[tactic(auto, unfolding(format::specs::Format::node_width))]
+fn link(table: &mut [u32], row: usize, token: Token, next: u32)
     requires { node_width * (row + 1) ≤ length table.old }
-    ensures some { token ≡ BEGIN_NODE → table.new ≡ set table.old (node_width * row + 4) next }
-    ensures none { token ≢ BEGIN_NODE → table.new ≡ table.old }
+    ensures some { token ≡ BeginNode → table.new ≡ set table.old (node_width * row + 4) next }
+    ensures none { token ≢ BeginNode → table.new ≡ table.old }
 {
-    if token == Token::BEGIN_NODE {
+    if let Token::BeginNode = token {
         table[NODE_WIDTH * row + SIBLING] = next;
     }
 }
 
-// The row of a first child, where the token there opens one.
-fn child_row(token: u32, row: u32) -> u32
+// The row of a first child, where the token there opens one, and else `NONE`: a row is numbers alone, and tells C so.
+#[tactic(auto, using(crate::proofs::TokenLaws::no_child), unfolding(crate::specs::Pass::child_row, format::specs::Format::NONE))]
+fn child_row(token: Token, row: u32) -> u32
     ensures { result ≡ child_row token row }
 {
-    if token == Token::BEGIN_NODE {
-        return row;
+    match token {
+        Token::BeginNode => row,
+        _ => NONE,
     }
-    NONE
 }
-
-// ---- the pass
 
 // The row of the property at pos. Returns what follows it.
-fn write_prop(b: &[u8], strings: Block, pos: usize, row: usize, props: &mut [u32]) -> usize
-    requires { PropReady b.now (block strings) pos row props.old }
-    ensures next { result ≡ bytes.align (pos + 12 + word_at b.now (pos + 4)) 4 }
-    ensures stored { props.new ≡ sets props.old (property_width * row) (prop_numbers b.now (block strings) pos) }
+#[tactic(auto, unfolding(format::specs::Format::property_width))]
+fn write_prop(blob: &Blob, pos: usize, props: &mut Table<u32, PROPERTY_WIDTH>) -> usize
+    requires { PropReady blob.now.bytes.now (block blob.now.strings) pos props.old.row props.old.numbers.now }
+    ensures next { result ≡ bytes.align (pos + 12 + word_at blob.now.bytes.now (pos + 4)) 4 }
+    ensures stored { props.new.numbers.now ≡ sets props.old.numbers.now (property_width * props.old.row) (prop_numbers blob.now.bytes.now (block blob.now.strings) pos) }
+    ensures row { props.new.row ≡ props.old.row + 1 }
+    ensures lent { props.new.numbers.ghost_name ≡ props.old.numbers.ghost_name }
 {
-    let size = reader::word_at(b, pos + SIZE_AT);
-    let offset = reader::word_at(b, pos + OFFSET_AT);
-    let start = strings.start;
-    let end = strings.end;
-    let name = start + offset as usize;
-    let len = reader::string_len(&b[..end], name);
-    put_prop(
-        props,
-        row,
-        name as u32,
-        len as u32,
-        (pos + VALUE_AT) as u32,
-        size,
-    );
-    reader::aligned(pos + VALUE_AT + size as usize, ALIGNED)
+    let b = blob.bytes;
+    let size: u32 = number_at(b, pos + SIZE_AT);
+    let offset: u32 = number_at(b, pos + OFFSET_AT);
+    let name = blob.strings.start + offset as usize;
+    let len = string_len(&b[..blob.strings.end], name);
+    let value = pos + VALUE_AT;
+    props.push([name as u32, len as u32, value as u32, size]);
+    aligned(value + size as usize, ALIGNED)
 }
 
-// The rows of the properties from pos on.
-fn write_props(b: &[u8], strings: Block, pos: usize, row: usize, props: &mut [u32]) -> Props
-    requires { PropsReady b.now (block strings) pos row props.old }
-    ensures { (xs : List Property) → PropsHere b.now (block strings) pos xs
-        → props_state result props.new ≡ props_after b.now (block strings) xs pos row props.old }
+// The rows of the properties from pos on. Returns what follows them.
+fn write_props(blob: &Blob, pos: usize, props: &mut Table<u32, PROPERTY_WIDTH>) -> usize
+    requires { PropsReady blob.now.bytes.now (block blob.now.strings) pos props.old.row props.old.numbers.now }
+    ensures stored { (xs : List Property) → PropsHere blob.now.bytes.now (block blob.now.strings) pos xs
+        → props_state result props.new.row props.new.numbers.now
+        ≡ props_after blob.now.bytes.now (block blob.now.strings) xs pos props.old.row props.old.numbers.now }
+    ensures lent { props.new.numbers.ghost_name ≡ props.old.numbers.ghost_name }
 {
     let mut p = pos;
-    let mut r = row;
-    while reader::word_at(b, p) == Token::PROP {
-        p = write_prop(b, strings, p, r, props);
-        r += 1;
+    while let Token::Prop = Token::at(blob.bytes, p) {
+        p = write_prop(blob, p, props);
     }
-    Props { next: p, row: r }
+    p
 }
 
-// A node's own row and those of its properties.
+// A node's own row and those of its properties. Returns what follows these.
+#[tactic(auto, unfolding(crate::specs::Pass::string_length, format::specs::Format::node_width))]
 fn write_head(
-    b: &[u8],
-    strings: Block,
+    blob: &Blob,
     pos: usize,
-    row: usize,
-    prow: usize,
     parent: u32,
-    nodes: &mut [u32],
-    props: &mut [u32],
-) -> Props
-    requires { HeadReady b.now (block strings) pos row prow nodes.old props.old }
-    ensures { (xs : List Property) → PropsHere b.now (block strings) (first_at b.now pos) xs
-        → HeadDone b.now (block strings) xs pos row prow parent nodes.old props.old result nodes.new props.new }
+    nodes: &mut Table<u32, NODE_WIDTH>,
+    props: &mut Table<u32, PROPERTY_WIDTH>,
+) -> usize
+    requires { HeadReady blob.now.bytes.now (block blob.now.strings) pos nodes.old.row props.old.row nodes.old.numbers.now props.old.numbers.now }
+    ensures stored { (xs : List Property) → PropsHere blob.now.bytes.now (block blob.now.strings) (first_at blob.now.bytes.now pos) xs
+        → HeadDone blob.now.bytes.now (block blob.now.strings) xs pos nodes.old.row props.old.row parent nodes.old.numbers.now props.old.numbers.now
+        result nodes.new.row props.new.row nodes.new.numbers.now props.new.numbers.now }
+    ensures lent_nodes { nodes.new.numbers.ghost_name ≡ nodes.old.numbers.ghost_name }
+    ensures lent_props { props.new.numbers.ghost_name ≡ props.old.numbers.ghost_name }
 {
     let name = pos + NAME_AT;
-    let len = reader::string_len(b, name);
-    let own = write_props(
-        b,
-        strings,
-        reader::aligned(name + len + 1, ALIGNED),
-        prow,
-        props,
-    );
-    let next = own.next;
-    let after = own.row;
-    let child = child_row(reader::word_at(b, next), (row + 1) as u32);
-    put_node(
-        nodes,
-        row,
-        NodeRow {
-            name: name as u32,
-            len: len as u32,
-            parent,
-            child,
-            first: prow as u32,
-            count: (after - prow) as u32,
-        },
-    );
-    Props { next, row: after }
+    let len = string_len(blob.bytes, name);
+    let first = props.row;
+    let next = write_props(blob, aligned(name + len + 1, ALIGNED), props);
+    let child = child_row(Token::at(blob.bytes, next), (nodes.row + 1) as u32);
+    let count = props.row - first;
+    nodes.push([
+        name as u32,
+        len as u32,
+        parent,
+        child,
+        NONE,
+        first as u32,
+        count as u32,
+    ]);
+    next
 }
 
-// The rows of the node at pos and of what it holds; its own says that it has no next sibling.
+// The rows of the node at pos and of what it holds; its own says that it has no next sibling. Returns what follows the node.
 pub(crate) fn write_node(
-    b: &[u8],
-    strings: Block,
+    blob: &Blob,
     depth: usize,
     pos: usize,
-    row: usize,
-    prow: usize,
     parent: u32,
-    nodes: &mut [u32],
-    props: &mut [u32],
-) -> Passed
-    requires { NodeReady b.now (block strings) depth pos row prow nodes.old props.old }
-    ensures { (n : Node) → NodeHere b.now (block strings) pos n
-        → passed result nodes.new props.new
-        ≡ node_after b.now (block strings) n pos row prow parent format.NONE nodes.old props.old }
+    nodes: &mut Table<u32, NODE_WIDTH>,
+    props: &mut Table<u32, PROPERTY_WIDTH>,
+) -> usize
+    requires { NodeReady blob.now.bytes.now (block blob.now.strings) depth pos nodes.old.row props.old.row nodes.old.numbers.now props.old.numbers.now }
+    ensures stored { (n : Node) → NodeHere blob.now.bytes.now (block blob.now.strings) pos n
+        → passed result nodes.new.row props.new.row nodes.new.numbers.now props.new.numbers.now
+        ≡ node_after blob.now.bytes.now (block blob.now.strings) n pos nodes.old.row props.old.row parent format.NONE nodes.old.numbers.now props.old.numbers.now }
+    ensures lent_nodes { nodes.new.numbers.ghost_name ≡ nodes.old.numbers.ghost_name }
+    ensures lent_props { props.new.numbers.ghost_name ≡ props.old.numbers.ghost_name }
 {
-    let own = write_head(b, strings, pos, row, prow, parent, nodes, props);
-    let mut p = own.next;
-    let mut k = own.row;
-    let mut r = row + 1;
-    let mut token = reader::word_at(b, p);
-    while token == Token::BEGIN_NODE {
-        let child = write_node(b, strings, depth - 1, p, r, k, row as u32, nodes, props);
-        p = child.next;
-        k = child.prow;
-        let last = r;
-        r = child.row;
-        token = reader::word_at(b, p);
-        link(nodes, last, token, r as u32);
+    let row = nodes.row;
+    let mut p = write_head(blob, pos, parent, nodes, props);
+    let mut token = Token::at(blob.bytes, p);
+    while let Token::BeginNode = token {
+        let last = nodes.row;
+        p = write_node(blob, depth - 1, p, row as u32, nodes, props);
+        token = Token::at(blob.bytes, p);
+        link(nodes.numbers, last, token, nodes.row as u32);
     }
-    Passed {
-        next: p + TOKEN,
-        row: r,
-        prow: k,
-    }
+    p + TOKEN
 }

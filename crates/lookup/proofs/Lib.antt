@@ -1,5 +1,4 @@
--- Outcomes and Determined are for callers; the others are what the proofs here cite.
-pub mod Outcomes
+-- Determined is for callers; the others are what the proofs here cite.
 pub mod Determined
 mod RowLaws
 mod NameLaws

@@ -1,7 +1,10 @@
 -- Looking up a path: what holds before each part of it and before each child, and the public calls by cases. Assumes nothing.
-use Rattle.std.proofs.Common.{◌≡◌, ℕ, zero, suc, ◌+◌, ◌-◌, ◌*◌, ◌/◌, ◌<◌, ◌≤◌, Bool, true, false, ◌&&◌, ltb, leb, ◌≢◌, ◌⊎◌, List, [], ◌∷◌, length, get_or, drop, sym, refl, ap, ◌∙◌, ⊎_elim, arith, ltb-true, eq-eqb, ne_eqb, le-leb, leb-true}
-use borrow.Author.Tests.{lt-leb}
+use Rattle.std.proofs.Common.{◌≡◌, ℕ, zero, suc, ◌+◌, ◌-◌, ◌<◌, ◌≤◌, Bool, true, false, ◌&&◌, ltb, leb, ◌≢◌, ◌⊎◌, List, [], ◌∷◌, length, take, drop, sym, refl, ap, ◌∙◌, ⊎_elim, arith, eqb, ltb-true, eq-eqb, ne_eqb, leb-true}
+use lib.Pointwise.{pointwise}
+use lib.ListN.{get_or}
 use borrow.Author.Rules.{part_to_end}
+use mathlib.Core.Bool.{true≢false}
+use Rattle.std.proofs.Math.Bool.{and-true}
 use Rattle.format.specs.Answer.{Refusal, Outcome, ok, refused, ◌>>=◌, nothing_found, not_usable}
 use Rattle.format.specs.Bytes.{part}
 use Rattle.format.specs.Format.{NONE, node_width}
@@ -13,11 +16,9 @@ use Rattle.format.proofs.Tools.{both, tested, if_yes, if_no}
 use Rattle.format.proofs.Answer.{never, ok_same, then_ok, then_refused, check_ok, check_no}
 use Rattle.format.proofs.Lookup.{across_other, across_here, across_below, across_none, across_bad}
 use Rattle.format.proofs.Reached.{There, follows, led, links_of, links_good_lem, Enough, next_enough, turns_enough}
-use Rattle.lookup.specs.Places.{node_in, IsNode, child_from, ChildGives}
+use Rattle.lookup.specs.Places.{IsNode, child_from}
 use Rattle.lookup.specs.declared.judge.NodeCells.{NodeCells}
-use Rattle.lookup.specs.declared.path.Child.{Child}
-use Rattle.lookup.specs.declared.path.Child.TheVariants as child
-use Rattle.lookup.proofs.RowLaws.{nodes_length, node_read, ahead, fewer_ahead, leads}
+use Rattle.lookup.proofs.RowLaws.{ahead, fewer_ahead, leads}
 
 -- ---- one turn of the search for a child
 
@@ -125,25 +126,25 @@ module _ (b : List ℕ) (R : List NodeRow) where
     pub way_end : length path ≤ 0 → ok row ≡ goal
     way_end h = down_end row path h ∙ sym w.same
 
-    module _ (h : 0 < length path) (name later : List ℕ) (e : head path ≡ name) (f : rest path ≡ later) where
+    module _ (n : ℕ) (size : length R ≡ n) (h : 0 < length path) (name later : List ℕ) (e : head path ≡ name) (f : rest path ≡ later) where
       first_enough : Enough b R (length R) link
       first_enough = (
         omega (arith, w.there),
         λ other. ⊎_elim (λ same. absurd (other same)) (λ k. omega (arith, k.above)) (follows b R row link w.good),
       )
 
-      splits_here : goal ≡ (child_from b R (length R) link name >>= λ c. down b R c later)
+      splits_here : goal ≡ (child_from b R n link name >>= λ c. down b R c later)
       splits_here =
           w.same
           ∙ down_step row path h
-          ∙ rw (← w.own, e, f) (splits b R (length R) link (led b R row link w.good) first_enough name later)
+          ∙ rw (← w.own, e, f, ← size) (splits b R (length R) link (led b R row link w.good) first_enough name later)
 
-      pub way_refused : (r : Refusal) → child_from b R (length R) link name ≡ refused r → refused r ≡ goal
-      way_refused r g = sym (splits_here ∙ then_refused _ _ g)
+      pub way_refused : {r : Refusal} → child_from b R n link name ≡ refused r → refused r ≡ goal
+      way_refused g = sym (splits_here ∙ then_refused _ _ g)
 
-      pub way_down : (c l : ℕ) → child_from b R (length R) link name ≡ ok c → l ≡ (at R c).first_child → Way b R goal c l later
-      way_down c l g own =
-          let good = found_good b R (length R) link name c (led b R row link w.good) g in
+      pub way_down : {c l : ℕ} → child_from b R n link name ≡ ok c → l ≡ (at R c).first_child → Way b R goal c l later
+      way_down {c} g own =
+          let good = found_good b R n link name c (led b R row link w.good) g in
           record { there = good.0; good = rw own (links_of b R c good.1).0; own = own; same = splits_here ∙ then_ok _ _ g refl }
 
 -- ---- the children
@@ -165,11 +166,11 @@ pub record Kid (b : List ℕ) (R : List NodeRow) (goal : Outcome ℕ) (first : L
   pub enough : length R ≤ row + turns
   pub same : goal ≡ child_from b R (suc turns) row first
 
-pub kids_begin : (b : List ℕ) (R : List NodeRow) (link : ℕ) (first : List ℕ) (low : ℕ) → low < length R → link_good R low link ≡ true
-    → Kids b R (child_from b R (length R) link first) first link
-kids_begin b R link first low there good = record {
+pub kids_begin : (b : List ℕ) (R : List NodeRow) (n link : ℕ) (first : List ℕ) → length R ≡ n → (low : ℕ) → low < length R → link_good R low link ≡ true
+    → Kids b R (child_from b R n link first) first link
+kids_begin b R n link first size low there good = record {
   low = low;
-  turns = length R;
+  turns = n;
   there = there;
   enough = omega arith;
   good = good;
@@ -223,133 +224,80 @@ pub kid_bad : (b : List ℕ) (R : List NodeRow) (row : ℕ) → (links_good R ro
 kid_bad b R row e goal first x = x.same ∙ child_bad b R x.turns row first x.some e
 
 -- a turn of the loop over children, by what is known in it: the link leads to a row, its numbers were read, and whether the row is good
-module _ (b nodes : List ℕ) (count link : ℕ) (goal : Outcome ℕ) (first : List ℕ) (x : Kids b (nodes_in count nodes) goal first link) (some : link ≢ NONE) where
-  turn_kid : Kid b (nodes_in count nodes) goal first link
+module _ (b : List ℕ) (R : List NodeRow) (link : ℕ) (goal : Outcome ℕ) (first : List ℕ) (x : Kids b R goal first link) (some : link ≢ NONE) where
+  turn_kid : Kid b R goal first link
   turn_kid = kids_some _ _ _ _ _ x some
 
-  pub turn_below : link < count
-  turn_below = rw nodes_length at turn_kid.there
+  pub turn_below : link < length R
+  turn_below = turn_kid.there
 
-  module _ (node : NodeCells) (read : IsNode node (node_in nodes link)) where
-    turn_is : IsNode node (at (nodes_in count nodes) link)
-    turn_is = node_read _ _ _ _ turn_below read
+  pub turn_bad : (links_good R link && name_inside b R link) ≡ false → goal ≡ refused not_usable
+  turn_bad e = kid_bad _ _ _ e _ _ turn_kid
 
-    pub turn_child : node.child ≡ (at (nodes_in count nodes) link).first_child
-    turn_child = turn_is.child
+  module _ (node : NodeCells) (is : IsNode node (at R link)) (good : (links_good R link && name_inside b R link) ≡ true) where
+    pub turn_inside : node.name + node.len ≤ length b
+    turn_inside = judged_inside _ _ _ _ is good
 
-    module _ (t : Bool) (judged : (s : List ℕ) (R : List NodeRow) → length s ≡ length b → length R ≡ count → IsNode node (at R link) → t ≡ (links_good R link && name_inside s R link)) where
-      turn_judged : (v : Bool) → t ≡ v → (links_good (nodes_in count nodes) link && name_inside b (nodes_in count nodes) link) ≡ v
-      turn_judged v e = sym (judged _ _ refl (nodes_length _ _) turn_is) ∙ e
+    pub turn_less : ahead (length R) node.next < ahead (length R) link
+    turn_less = fewer_ahead _ _ _ turn_kid.some turn_kid.there (judged_next _ _ _ _ is good)
 
-      pub turn_bad : t ≡ false → goal ≡ refused not_usable
-      turn_bad e = kid_bad _ _ _ (turn_judged _ e) _ _ turn_kid
+    pub turn_here : same (part b node.name node.len) first ≡ true → goal ≡ ok link
+    turn_here e = kid_here _ _ _ _ is good _ _ turn_kid e
 
-      module _ (good : t ≡ true) where
-        pub turn_inside : node.name + node.len ≤ length b
-        turn_inside = judged_inside _ _ _ _ turn_is (turn_judged _ good)
-
-        pub turn_less : ahead count node.next < ahead count link
-        turn_less = rw nodes_length at (fewer_ahead _ _ _ turn_kid.some turn_kid.there (judged_next _ _ _ _ turn_is (turn_judged _ good)))
-
-        pub turn_here : same (part b node.name node.len) first ≡ true → goal ≡ ok link
-        turn_here e = kid_here _ _ _ _ turn_is (turn_judged _ good) _ _ turn_kid e
-
-        pub turn_next : same (part b node.name node.len) first ≡ false → Kids b (nodes_in count nodes) goal first node.next
-        turn_next e = kid_next _ _ _ _ turn_is (turn_judged _ good) _ _ turn_kid e
-
--- ---- what the search gives
-
-module _ (b : List ℕ) (R : List NodeRow) (link : ℕ) (first : List ℕ) {r : Child} (g : ChildGives b R link first r) where
-  pub gives_at : {row below : ℕ} → r ≡ child.At row below → (child_from b R (length R) link first ≡ ok row) × (below ≡ (at R row).first_child)
-  unfolding ChildGives
-  gives_at e = rw e at g
-
-  pub gives_nothing : r ≡ child.Nothing → child_from b R (length R) link first ≡ refused nothing_found
-  unfolding ChildGives
-  gives_nothing e = rw e at g
-
-  pub gives_unusable : r ≡ child.Unusable → child_from b R (length R) link first ≡ refused not_usable
-  unfolding ChildGives
-  gives_unusable e = rw e at g
-
--- the next part of the path, by what the search for its child gave
-module _ (b : List ℕ) (R : List NodeRow) (goal : Outcome ℕ) (row link : ℕ) (path : List ℕ) (w : Way b R goal row link path) (h : 0 < length path) (name later : List ℕ)
-    (e : head path ≡ name) (f : rest path ≡ later) {r : Child} (g : ChildGives b R link name r) where
-  pub way_at : {c below : ℕ} → r ≡ child.At c below → Way b R goal c below later
-  way_at is =
-      let found = gives_at _ _ _ _ g is in
-      way_down _ _ _ _ _ _ w h _ _ e f _ _ found.0 found.1
-
-  pub way_nothing : r ≡ child.Nothing → refused nothing_found ≡ goal
-  way_nothing is = way_refused _ _ _ _ _ _ w h _ _ e f _ (gives_nothing _ _ _ _ g is)
-
-  pub way_unusable : r ≡ child.Unusable → refused not_usable ≡ goal
-  way_unusable is = way_refused _ _ _ _ _ _ w h _ _ e f _ (gives_unusable _ _ _ _ g is)
-
--- a row whose numbers were read, with the judgement of its links
-module _ (nodes : List ℕ) (count row : ℕ) (node : NodeCells) (below : row < count) (read : IsNode node (node_in nodes row)) where
-  pub links_judged : (t : Bool) → ((R : List NodeRow) → length R ≡ count → IsNode node (at R row) → t ≡ links_good R row) → (v : Bool) → t ≡ v
-      → links_good (nodes_in count nodes) row ≡ v
-  links_judged t judged v e = sym (judged _ (nodes_length _ _) (node_read _ _ _ _ below read)) ∙ e
+    pub turn_next : same (part b node.name node.len) first ≡ false → Kids b R goal first node.next
+    turn_next e = kid_next _ _ _ _ is good _ _ turn_kid e
 
 -- ---- the public calls
 
-module _ (t : List ℕ) (n row : ℕ) where
-  pub too_many : length t / 7 < n → usable t n row ≡ false
-  unfolding usable capacity node_width
-  too_many h = rw (lt-leb n (length t / 7) h)
-
-  pub if_below : n ≤ length t / 7 → usable t n row ≡ ltb row n
-  unfolding usable capacity node_width
-  if_below h = rw (le-leb n (length t / 7) h)
-
-  -- the row and its table's room
-  pub used : usable t n row ≡ true → (row < n) × (node_width * n ≤ length t)
-  unfolding usable capacity node_width
-  used u =
-      let fits : n ≤ length t / 7 = leb-true _ _ (both (leb n (length t / 7)) (ltb row n) u).0 in
-      (ltb-true _ _ (both (leb n (length t / 7)) (ltb row n) u).1, omega arith)
+-- the starting row of a table that can be used
+pub used : (t : List ℕ) (n row : ℕ) → usable t n row ≡ true → row < n
+unfolding usable
+used t n row u = ltb-true _ _ (both (leb n (capacity node_width t)) (ltb row n) u).1
 
 module _ (b t : List ℕ) (n row : ℕ) (path : List ℕ) where
-  pub from_unusable : usable t n row ≡ false → refused not_usable ≡ find_from b t n row path
+  pub from_unusable : usable t n row ≡ false → find_from b t n row path ≡ refused not_usable
   unfolding find_from
-  from_unusable u = sym (then_refused _ _ (check_no _ u))
+  from_unusable u = then_refused _ _ (check_no _ u)
 
   pub from_reach : usable t n row ≡ true → reach b (nodes_in n t) row path ≡ find_from b t n row path
   unfolding find_from
   from_reach u = sym (then_ok _ _ (check_ok _ u) refl)
 
-slash_none : (path : List ℕ) → length path ≡ 0 → after_slash path ≡ refused nothing_found
-unfolding after_slash
-slash_none [] e = refl
-slash_none (c ∷ p) e = absurd (omega arith)
+-- the path begins with a slash, as the library compares it
+abbrev Slashed : List ℕ → Bool → Type 0
+Slashed path v = pointwise eqb (take 1 path) (0x2f ∷ []) ≡ v
 
-slash_other : (path : List ℕ) → 0 < length path → get_or path 0 0 ≢ 0x2f → after_slash path ≡ refused nothing_found
+slash_none : (path : List ℕ) → Slashed path false → after_slash path ≡ refused nothing_found
 unfolding after_slash SLASH
-slash_other [] l d = absurd (omega arith)
-slash_other (c ∷ p) l d = if_no _ _ (ne_eqb c 0x2f d)
+slash_none [] d = refl
+slash_none (c ∷ p) d = if_no _ _ (sym (and-true _) ∙ d)
 
-slash_first : (path : List ℕ) → 0 < length path → get_or path 0 0 ≡ 0x2f → after_slash path ≡ ok (drop 1 path)
+slash_first : (path : List ℕ) → Slashed path true → after_slash path ≡ ok (drop 1 path)
 unfolding after_slash SLASH
-slash_first [] l d = absurd (omega arith)
-slash_first (c ∷ p) l d = if_yes _ _ (eq-eqb c 0x2f d)
+slash_first [] d = absurd (true≢false (sym d))
+slash_first (c ∷ p) d = if_yes _ _ (sym (and-true _) ∙ d)
+
+slashed : (path : List ℕ) → 0 < length path → get_or path 0 0 ≡ 0x2f → Slashed path true
+slashed [] l d = absurd (omega (arith, l))
+slashed (c ∷ p) l d = and-true _ ∙ eq-eqb c 0x2f d
 
 module _ (b t : List ℕ) (n : ℕ) (path : List ℕ) where
-  pub tree_unusable : usable t n 0 ≡ false → refused not_usable ≡ find b t n path
+  pub tree_unusable : usable t n 0 ≡ false → find b t n path ≡ refused not_usable
   unfolding find
-  tree_unusable u = sym (then_refused _ _ (check_no _ u))
+  tree_unusable u = then_refused _ _ (check_no _ u)
 
   module _ (u : usable t n 0 ≡ true) where
-    pub tree_empty : length path ≡ 0 → refused nothing_found ≡ find b t n path
+    pub tree_none : Slashed path false → refused nothing_found ≡ find b t n path
     unfolding find
-    tree_empty e = sym (then_ok _ _ (check_ok _ u) (then_refused _ _ (slash_none path e)))
+    tree_none d = sym (then_ok _ _ (check_ok _ u) (then_refused _ _ (slash_none path d)))
 
+    -- after the slash, a path from row 0
+    pub tree_below : Slashed path true → {below : List ℕ} → below ≡ drop 1 path → reach b (nodes_in n t) 0 below ≡ find b t n path
+    unfolding find
+    tree_below d e = rw e (sym (then_ok _ _ (check_ok _ u) (then_ok _ _ (slash_first path d) refl)))
+
+    -- the same by its first byte
     module _ (l : 0 < length path) where
-      pub tree_other : get_or path 0 0 ≢ 0x2f → refused nothing_found ≡ find b t n path
-      unfolding find
-      tree_other d = sym (then_ok _ _ (check_ok _ u) (then_refused _ _ (slash_other path l d)))
-
-      -- after the slash, a path from row 0
       pub tree_reach : get_or path 0 0 ≡ 0x2f → reach b (nodes_in n t) 0 (part path 1 (length path - 1)) ≡ find b t n path
-      unfolding find part
-      tree_reach d = rw (part_to_end path 1) (sym (then_ok _ _ (check_ok _ u) (then_ok _ _ (slash_first path l d) refl)))
+      unfolding part
+      tree_reach d = tree_below (slashed path l d) (part_to_end path 1)

@@ -1,14 +1,15 @@
 // Rows of the tables, and the judgements of a row that is reached.
-ghost use Rattle.std.specs.Prelude.{◌≡◌, ℕ, ◌+◌, ◌*◌, ◌<◌, ◌≤◌, ◌&&◌, ◌≢◌, List, length, nat_le, slice_index};
+ghost use Rattle.std.specs.Prelude.{◌≡◌, ◌+◌, ◌*◌, ◌<◌, ◌≤◌, ◌&&◌, ◌≢◌, true, false, length, nat_le, IfOk, IfErr};
 ghost use Rattle.format.specs.Bytes.{part};
 ghost use Rattle.format.specs.Find.{same};
-ghost use Rattle.format.specs.Format.{NONE as none, node_width, property_width};
-ghost use Rattle.format.specs.Rows.{NodeRow, at};
+ghost use Rattle.format.specs.Format.{NONE as none, node_width};
+ghost use Rattle.format.specs.Rows.{at};
 ghost use Rattle.format.specs.Lookup.{link_good, links_good, name_inside, usable};
-ghost use Rattle.lookup.specs.Places.{IsNode, IsProperty, node_in, property_in};
+ghost use Rattle.lookup.specs.Places.{IsNode, rows_of};
+ghost use Rattle.lookup.specs.declared.LookupError.TheVariants.{Unusable};
 
-use format::{NODE_WIDTH, NONE, PROPERTY_WIDTH};
-use std::num::wrapping_add_u32;
+use crate::{LookupError, LookupResult, Nodes};
+use format::{NODE_WIDTH, NONE};
 
 // The numbers of a node row that a lookup reads.
 #[derive(Clone, Copy)]
@@ -21,21 +22,25 @@ pub(crate) struct NodeCells {
     pub(crate) count: u32,
 }
 
-// The numbers of a property row.
+// Nodes of which the table has as many as are counted.
 #[derive(Clone, Copy)]
-pub(crate) struct PropertyCells {
-    pub(crate) name: u32,
-    pub(crate) len: u32,
-    pub(crate) value: u32,
-    pub(crate) size: u32,
+pub(crate) struct Judged<'b, 't> {
+    pub(crate) nodes: Nodes<'b, 't>,
+    ghost room: { node_width * nodes.count ≤ length nodes.table.now },
 }
 
-// A number of a table.
-fn cell(table: &[u32], at: usize) -> u32
-    requires { at < length table.now }
-    ensures { result ≡ slice_index table.now at }
-{
-    table[at]
+impl<'b, 't> Nodes<'b, 't> {
+    // The same, judged. Refused where fewer are there than are counted, or `row` is none of them.
+    #[tactic(auto, unfolding(format::specs::Lookup::usable, format::specs::Load::capacity, format::specs::Format::node_width))]
+    pub(crate) fn judged(&self, row: usize) -> LookupResult<Judged<'b, 't>>
+        ensures ok { IfOk result (λ judged. (usable self.now.table.now self.now.count row ≡ true) × (judged.nodes ≡ self.now)) }
+        ensures err { IfErr result (λ e. (usable self.now.table.now self.now.count row ≡ false) × (e ≡ Unusable)) }
+    {
+        if self.table.len() / NODE_WIDTH < self.count || self.count <= row {
+            return Err(LookupError::Unusable);
+        }
+        Ok(Judged { nodes: *self })
+    }
 }
 
 // A row's width, but for the one or the two times that the row's number is added apart.
@@ -43,81 +48,63 @@ const BUT_ONE: usize = NODE_WIDTH - 1;
 
 const BUT_TWO: usize = NODE_WIDTH - 2;
 
-// A row's place is seven times its number. The next link's is two sums that the processor makes side by side, as a search waits for it
-// at every row; the others' follow each other.
-pub(crate) fn node_at(nodes: &[u32], row: usize) -> NodeCells
-    requires { node_width * (row + 1) ≤ length nodes.now }
-    ensures { IsNode result (node_in nodes.now row) }
-{
-    let link = &nodes[2 * row..];
-    let part = &nodes[BUT_ONE * row..];
-    NodeCells {
-        name: cell(part, row),
-        len: cell(part, row + 1),
-        child: cell(part, row + 3),
-        next: cell(link, BUT_TWO * row + 4),
-        first: cell(part, row + 5),
-        count: cell(part, row + 6),
+impl Judged<'_, '_> {
+    // A row's place is seven times its number. The next link's is two sums that the processor makes side by side, as a search waits for
+    // it at every row; the others' follow each other. As an array of its own a row's place is a product by 28: measured, 2,000 siblings
+    // took an eighth longer.
+    #[tactic(auto, unfolding(format::specs::Format::node_width))]
+    pub(crate) fn node_at(&self, row: usize) -> NodeCells
+        requires { row < self.now.nodes.count }
+        ensures { IsNode result (at (rows_of self.now.nodes) row) }
+    {
+        let link = &self.nodes.table[2 * row..];
+        let part = &self.nodes.table[BUT_ONE * row..];
+        NodeCells {
+            name: part[row],
+            len: part[row + 1],
+            child: part[row + 3],
+            next: link[BUT_TWO * row + 4],
+            first: part[row + 5],
+            count: part[row + 6],
+        }
     }
-}
 
-pub(crate) fn prop_at(props: &[u32], row: usize) -> PropertyCells
-    requires { property_width * (row + 1) ≤ length props.now }
-    ensures { IsProperty result (property_in props.now row) }
-{
-    let at = PROPERTY_WIDTH * row;
-    PropertyCells {
-        name: cell(props, at),
-        len: cell(props, at + 1),
-        value: cell(props, at + 2),
-        size: cell(props, at + 3),
+    // Whether a link of the row is none, or a later row below the count.
+    #[tactic(auto, unfolding(format::specs::Lookup::link_good, format::specs::Format::NONE))]
+    fn link_is_good(&self, row: usize, link: u32) -> bool
+        ensures { result ≡ link_good (rows_of self.now.nodes) row link }
+    {
+        link == NONE || (row < link as usize && (link as usize) < self.nodes.count)
     }
-}
 
-// Whether so many rows are there, and that row is one of them.
-pub(crate) fn usable(nodes: &[u32], count: usize, row: usize) -> bool
-    ensures { result ≡ usable nodes.now count row }
-{
-    if nodes.len() / NODE_WIDTH < count {
-        return false;
+    // The same of a row that a link led to. One more than none is 0, so both tests go the same way for every good link, and the
+    // processor need not guess whether there is one.
+    fn leads_on(&self, row: u32, link: u32) -> bool
+        requires { row ≢ none }
+        ensures { result ≡ link_good (rows_of self.now.nodes) row link }
+    {
+        row < link && link.wrapping_add(1) as usize <= self.nodes.count
     }
-    row < count
-}
 
-// Whether a link of the row is none, or a later row below the count.
-fn link_is_good(link: u32, row: usize, count: usize) -> bool
-    ensures { (R : List NodeRow) → length R ≡ count → result ≡ link_good R row link }
-{
-    if link == NONE {
-        return true;
+    // Whether both links of the row are good.
+    #[tactic(auto, unfolding(format::specs::Lookup::links_good))]
+    pub(crate) fn links_are_good(&self, row: usize, node: NodeCells) -> bool
+        requires { IsNode node (at (rows_of self.now.nodes) row) }
+        ensures { result ≡ links_good (rows_of self.now.nodes) row }
+    {
+        self.link_is_good(row, node.child) && self.link_is_good(row, node.next)
     }
-    let to = link as usize;
-    if to <= row {
-        return false;
-    }
-    to < count
-}
 
-// The same of a row that a link led to. One more than none is 0, so both tests go the same way for every good link, and the processor
-// need not guess whether there is one.
-fn leads_on(link: u32, row: u32, count: usize) -> bool
-    requires { row ≢ none }
-    ensures { (R : List NodeRow) → length R ≡ count → result ≡ link_good R row link }
-{
-    if link <= row {
-        return false;
+    // Whether both links are good and the name lies in the blob. The next row's number is read first: what follows waits for it.
+    pub(crate) fn row_is_good(&self, row: u32, node: NodeCells) -> bool
+        requires some { row ≢ none }
+        requires read { IsNode node (at (rows_of self.now.nodes) row) }
+        ensures { result ≡ (links_good (rows_of self.now.nodes) row && name_inside self.now.nodes.blob.now (rows_of self.now.nodes) row) }
+    {
+        self.leads_on(row, node.next)
+            && self.leads_on(row, node.child)
+            && lies_in(node.name, node.len, self.nodes.blob.len())
     }
-    wrapping_add_u32(link, 1) as usize <= count
-}
-
-// Whether both links of the row are good.
-pub(crate) fn links_are_good(node: NodeCells, row: usize, count: usize) -> bool
-    ensures { (R : List NodeRow) → length R ≡ count → IsNode node (at R row) → result ≡ links_good R row }
-{
-    if !link_is_good(node.child, row, count) {
-        return false;
-    }
-    link_is_good(node.next, row, count)
 }
 
 // Whether the part lies in a whole of that length.
@@ -125,21 +112,6 @@ pub(crate) fn lies_in(start: u32, len: u32, whole: usize) -> bool
     ensures { result ≡ nat_le (start + len) whole }
 {
     start as usize + len as usize <= whole
-}
-
-// Whether both links are good and the name lies in a blob of that length. The next row's number is read first: what follows waits for it.
-pub(crate) fn row_is_good(node: NodeCells, row: u32, count: usize, whole: usize) -> bool
-    requires { row ≢ none }
-    ensures { (b : List ℕ) (R : List NodeRow) → length b ≡ whole → length R ≡ count → IsNode node (at R row)
-        → result ≡ (links_good R row && name_inside b R row) }
-{
-    if !leads_on(node.next, row, count) {
-        return false;
-    }
-    if !leads_on(node.child, row, count) {
-        return false;
-    }
-    lies_in(node.name, node.len, whole)
 }
 
 // Whether that part of s is t.

@@ -6,29 +6,29 @@ mod judge;
 mod path;
 mod property;
 
-pub use path::{find, find_from};
-pub use property::{has_prop, prop_raw, prop_raw_part};
-
-// What a path finds: the row of a node.
-#[derive(Clone, Copy)]
-pub enum Found {
-    Row(usize),
-    Nothing,
+// Why nothing is found: 11, or 15.
+#[derive(Clone, Copy, Debug, PartialEq, Eq)]
+pub enum LookupError {
+    NotFound,
     Unusable,
 }
 
-// Whether a node has a property.
+pub type LookupResult<T> = Result<T, LookupError>;
+
+// A tree's nodes, as a table has them: its first `count` rows, which tell the blob's parts by their places. Any numbers may stand in it.
+// The count stands beside the table, for C lends them so, and one that the table has no room for is answered 15.
+// The blob may be lent for longer than the table, and so may the parts of it that are handed out.
 #[derive(Clone, Copy)]
-pub enum Has {
-    Yes,
-    No,
-    Unusable,
+pub struct Nodes<'b, 't> {
+    pub blob: &'b [u8],
+    pub table: &'t [u32],
+    pub count: usize,
 }
 
-// A property's value, by its place in the blob.
+// The same with the properties, in the first `many` rows of a table of their own, which C lends in the same way.
 #[derive(Clone, Copy)]
-pub enum Value {
-    Part { start: usize, len: usize },
-    Nothing,
-    Unusable,
+pub struct Rows<'b, 't> {
+    pub nodes: Nodes<'b, 't>,
+    pub props: &'t [u32],
+    pub many: usize,
 }

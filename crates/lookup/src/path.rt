@@ -1,100 +1,91 @@
 // Looking up a path: `DeviceTree::find` and `Node::find`.
-ghost use Rattle.std.specs.Prelude.{◌≡◌, ◌*◌, ◌<◌, ◌≤◌, length};
-ghost use Rattle.format.specs.Answer.{numbers, itself};
-ghost use Rattle.format.specs.Format.{node_width};
-ghost use Rattle.format.specs.Rows.{nodes_in};
+ghost use Rattle.std.specs.Prelude.{◌≡◌, ◌<◌, length, IfOk};
+ghost use Rattle.format.specs.Results.{outcome, outcome_of};
+ghost use Rattle.format.specs.Rows.{at};
 ghost use Rattle.format.specs.Lookup.{reach, find_from};
 ghost use Rattle.format.specs.Lookup as lookup;
-ghost use Rattle.lookup.specs.Answers.{found_numbers, found_outcome};
-ghost use Rattle.lookup.specs.Places.{JudgedLink, ChildGives};
+ghost use Rattle.lookup.specs.Answers.{why_of};
+ghost use Rattle.lookup.specs.Places.{JudgedLink, child_from, rows_of};
 
-use crate::Found;
-use crate::judge::{links_are_good, node_at, row_is_good, same_part, usable};
+use crate::judge::{Judged, same_part};
+use crate::{LookupError, LookupResult, Nodes};
 use format::NONE;
 use names::name_end;
 
 // A child that was found: its row, and the link to its own first child.
 #[derive(Clone, Copy)]
-enum Child {
-    At(usize, u32),
-    Nothing,
-    Unusable,
+struct Child {
+    row: usize,
+    below: u32,
 }
 
-// The first of the children, whose first is `first`, of that name.
-fn child_named(s: &[u8], nodes: &[u32], count: usize, first: u32, name: &[u8]) -> Child
-    requires { JudgedLink nodes.now count first }
-    ensures { ChildGives s.now (nodes_in count nodes.now) first name.now result }
-{
-    let mut link = first;
-    'children: loop {
-        if link == NONE {
-            return Child::Nothing;
-        }
-        let row = link as usize;
-        let node = node_at(nodes, row);
-        if !row_is_good(node, link, count, s.len()) {
-            return Child::Unusable;
-        }
-        if same_part(s, node.name, node.len, name) {
-            break 'children Child::At(row, node.child);
-        }
-        link = node.next;
-    }
-}
-
-// The path from a row below the count.
-fn walk(s: &[u8], nodes: &[u32], count: usize, from: usize, path: &[u8]) -> Found
-    requires { (from < count) × (node_width * count ≤ length nodes.now) }
-    ensures { found_outcome result ≡ reach s.now (nodes_in count nodes.now) from path.now }
-{
-    let own = node_at(nodes, from);
-    if !links_are_good(own, from, count) {
-        return Found::Unusable;
-    }
-    let mut first = own.child;
-    let mut row = from;
-    let mut rest = path;
-    while 0 < rest.len() {
-        let end = name_end(rest);
-        match child_named(s, nodes, count, first, &rest[0..end]) {
-            Child::At(child, link) => {
-                row = child;
-                first = link;
+impl Judged<'_, '_> {
+    // The first of the children, whose first is `first`, of that name.
+    fn child_named(&self, first: u32, name: &[u8]) -> LookupResult<Child>
+        requires { JudgedLink (rows_of self.now.nodes) first }
+        ensures row { outcome_of why_of (λ c. c.row) result ≡ child_from self.now.nodes.blob.now (rows_of self.now.nodes) self.now.nodes.count first name.now }
+        ensures below { IfOk result (λ c. c.below ≡ (at (rows_of self.now.nodes) c.row).first_child) }
+    {
+        let mut link = first;
+        while link != NONE {
+            let row = link as usize;
+            let node = self.node_at(row);
+            if !self.row_is_good(link, node) {
+                return Err(LookupError::Unusable);
             }
-            Child::Nothing => return Found::Nothing,
-            Child::Unusable => return Found::Unusable,
+            if same_part(self.nodes.blob, node.name, node.len, name) {
+                return Ok(Child {
+                    row,
+                    below: node.child,
+                });
+            }
+            link = node.next;
         }
-        if rest.len() <= end {
-            return Found::Row(row);
-        }
-        rest = &rest[end + 1..];
+        Err(LookupError::NotFound)
     }
-    Found::Row(row)
+
+    // The path from a row.
+    fn walk(&self, from: usize, path: &[u8]) -> LookupResult<usize>
+        requires { from < self.now.nodes.count }
+        ensures { outcome why_of result ≡ reach self.now.nodes.blob.now (rows_of self.now.nodes) from path.now }
+    {
+        let own = self.node_at(from);
+        if !self.links_are_good(from, own) {
+            return Err(LookupError::Unusable);
+        }
+        let mut at = Child {
+            row: from,
+            below: own.child,
+        };
+        let mut rest = path;
+        while !rest.is_empty() {
+            let (name, later) = rest.split_at(name_end(rest));
+            at = self.child_named(at.below, name)?;
+            let Some((_, below)) = later.split_first() else {
+                return Ok(at.row);
+            };
+            rest = below;
+        }
+        Ok(at.row)
+    }
 }
 
-// The path from a node.
-pub fn find_from(b: &[u8], nodes: &[u32], count: usize, row: usize, path: &[u8]) -> Found
-    ensures { found_numbers result ≡ numbers itself (find_from b.now nodes.now count row path.now) }
-{
-    if !usable(nodes, count, row) {
-        return Found::Unusable;
+impl Nodes<'_, '_> {
+    // The path from a node.
+    pub fn find_from(&self, row: usize, path: &[u8]) -> LookupResult<usize>
+        ensures { outcome why_of result ≡ find_from self.now.blob.now self.now.table.now self.now.count row path.now }
+    {
+        self.judged(row)?.walk(row, path)
     }
-    walk(b, nodes, count, row, path)
-}
 
-// The path in a tree: from row 0, after its leading slash.
-pub fn find(b: &[u8], nodes: &[u32], count: usize, path: &[u8]) -> Found
-    ensures { found_numbers result ≡ numbers itself (lookup.find b.now nodes.now count path.now) }
-{
-    if !usable(nodes, count, 0) {
-        return Found::Unusable;
+    // The path in a tree: from row 0, after its leading slash.
+    pub fn find(&self, path: &[u8]) -> LookupResult<usize>
+        ensures { outcome why_of result ≡ lookup.find self.now.blob.now self.now.table.now self.now.count path.now }
+    {
+        let judged = self.judged(0)?;
+        match path.strip_prefix(b"/") {
+            Some(below) => judged.walk(0, below),
+            None => Err(LookupError::NotFound),
+        }
     }
-    if path.len() == 0 {
-        return Found::Nothing;
-    }
-    if path[0] != b'/' {
-        return Found::Nothing;
-    }
-    walk(b, nodes, count, 0, &path[1..])
 }

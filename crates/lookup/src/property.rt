@@ -1,100 +1,72 @@
 // Looking up a property: `prop_raw`, and what stands on it.
-ghost use Rattle.std.specs.Prelude.{◌≡◌, ℕ, ◌-◌, ◌*◌, ◌≤◌, length};
-ghost use Rattle.format.specs.Answer.{numbers, nothing, place, or_empty};
-ghost use Rattle.format.specs.Format.{property_width};
-ghost use Rattle.format.specs.Rows.{properties_in};
+ghost use Rattle.std.specs.Prelude.{◌≡◌, ℕ, List, length};
+ghost use Rattle.format.specs.Answer.{or_empty};
+ghost use Rattle.format.specs.Results.{outcome, outcome_of};
+ghost use Rattle.format.specs.Rows.{PropertyRow};
 ghost use Rattle.format.specs.Lookup.{among, prop_raw, has_prop};
 ghost use Rattle.format.specs.Agrees.{bytes_in};
-ghost use Rattle.lookup.specs.Answers.{lent, has_numbers, value_numbers, value_outcome};
+ghost use Rattle.reader.specs.Outcomes.{tells};
+ghost use Rattle.lookup.specs.Answers.{lent_by, why_of};
+ghost use Rattle.lookup.specs.Places.{RowsFrom};
 
-use crate::judge::{lies_in, node_at, prop_at, same_part, usable};
-use crate::{Has, Value};
+use crate::judge::{lies_in, same_part};
+use crate::{LookupError, LookupResult, Rows};
 use format::PROPERTY_WIDTH;
+use reader::Span;
 
-// The first property of that name among the rows from `from` up to `end`.
-fn first_named(b: &[u8], props: &[u32], from: usize, end: usize, name: &[u8]) -> Value
-    requires { property_width * end ≤ length props.now }
-    ensures { (n : ℕ) → end ≤ n → value_outcome result ≡ among b.now (properties_in n props.now) (end - from) from name.now }
+// The first property of that name among some rows.
+fn first_named(blob: &[u8], rows: &[[u32; PROPERTY_WIDTH]], name: &[u8]) -> LookupResult<Span>
+    ensures { (P : List PropertyRow) (first : ℕ) → RowsFrom P first rows.now → outcome_of why_of tells result ≡ among blob.now P (length rows.now) first name.now }
 {
-    let mut k = from;
-    while k < end {
-        let prop = prop_at(props, k);
-        if !lies_in(prop.name, prop.len, b.len()) {
-            return Value::Unusable;
+    for row in rows {
+        let [at, len, start, size] = *row;
+        if !lies_in(at, len, blob.len()) || !lies_in(start, size, blob.len()) {
+            return Err(LookupError::Unusable);
         }
-        if !lies_in(prop.value, prop.size, b.len()) {
-            return Value::Unusable;
+        if same_part(blob, at, len, name) {
+            return Ok(Span {
+                start: start as usize,
+                len: size as usize,
+            });
         }
-        if same_part(b, prop.name, prop.len, name) {
-            return Value::Part {
-                start: prop.value as usize,
-                len: prop.size as usize,
-            };
-        }
-        k += 1;
     }
-    Value::Nothing
+    Err(LookupError::NotFound)
 }
 
-// Where the value lies.
-pub fn prop_raw(
-    b: &[u8],
-    nodes: &[u32],
-    count: usize,
-    props: &[u32],
-    many: usize,
-    row: usize,
-    name: &[u8],
-) -> Value
-    ensures { value_numbers result ≡ numbers place (prop_raw b.now (lent nodes.now count props.now many) row name.now) }
-{
-    if !usable(nodes, count, row) {
-        return Value::Unusable;
+impl<'b> Rows<'b, '_> {
+    // Where the value lies.
+    pub fn prop_raw(&self, row: usize, name: &[u8]) -> LookupResult<Span>
+        ensures { outcome_of why_of tells result ≡ prop_raw self.now.nodes.blob.now (lent_by self.now) row name.now }
+    {
+        let nodes = self.nodes.judged(row)?;
+        let (props, _) = self.props.as_chunks::<PROPERTY_WIDTH>();
+        if props.len() < self.many {
+            return Err(LookupError::Unusable);
+        }
+        let node = nodes.node_at(row);
+        if !lies_in(node.first, node.count, self.many) {
+            return Err(LookupError::Unusable);
+        }
+        let first = node.first as usize;
+        let own = &props[first..first + node.count as usize];
+        first_named(self.nodes.blob, own, name)
     }
-    if props.len() / PROPERTY_WIDTH < many {
-        return Value::Unusable;
-    }
-    let node = node_at(nodes, row);
-    if !lies_in(node.first, node.count, many) {
-        return Value::Unusable;
-    }
-    let from = node.first as usize;
-    first_named(b, props, from, from + node.count as usize, name)
-}
 
-// Whether there is such a property.
-pub fn has_prop(
-    b: &[u8],
-    nodes: &[u32],
-    count: usize,
-    props: &[u32],
-    many: usize,
-    row: usize,
-    name: &[u8],
-) -> Has
-    ensures { has_numbers result ≡ numbers nothing (has_prop b.now (lent nodes.now count props.now many) row name.now) }
-{
-    match prop_raw(b, nodes, count, props, many, row, name) {
-        Value::Part { start: _, len: _ } => Has::Yes,
-        Value::Nothing => Has::No,
-        Value::Unusable => Has::Unusable,
+    // Whether there is such a property.
+    pub fn has_prop(&self, row: usize, name: &[u8]) -> LookupResult<()>
+        ensures { outcome why_of result ≡ has_prop self.now.nodes.blob.now (lent_by self.now) row name.now }
+    {
+        self.prop_raw(row, name)?;
+        Ok(())
     }
-}
 
-// The value itself, empty on a refusal.
-pub fn prop_raw_part<'a>(
-    b: &'a [u8],
-    nodes: &[u32],
-    count: usize,
-    props: &[u32],
-    many: usize,
-    row: usize,
-    name: &[u8],
-) -> &'a [u8]
-    ensures { result.now ≡ or_empty (bytes_in b.now (prop_raw b.now (lent nodes.now count props.now many) row name.now)) }
-{
-    match prop_raw(b, nodes, count, props, many, row, name) {
-        Value::Part { start, len } => &b[start..start + len],
-        _ => &b[0..0],
+    // The value itself, empty on a refusal.
+    pub fn prop_raw_part(&self, row: usize, name: &[u8]) -> &'b [u8]
+        ensures { result.now ≡ or_empty (bytes_in self.now.nodes.blob.now (prop_raw self.now.nodes.blob.now (lent_by self.now) row name.now)) }
+    {
+        match self.prop_raw(row, name) {
+            Ok(Span { start, len }) => &self.nodes.blob[start..start + len],
+            Err(_) => &[],
+        }
     }
 }

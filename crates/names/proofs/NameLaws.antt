@@ -4,21 +4,27 @@ use mathlib.Core.Logic.{◌≢◌}
 use Prim.Native.Nat.{ℕ, zero, suc, ◌+◌, ◌-◌, ◌≤◌, ◌<◌}
 use native.Mathlib.Omega.{arith}
 use native.Mathlib.Nat.{add-zero}
-use native.Mathlib.Numerals.{add-one}
 use mathlib.Core.List.{List, [], ◌∷◌}
-use mathlib.Core.Bool.{Bool, true, false, ◌||◌, true≢false}
-use lib.ListN.{length, drop, get_or, drop_of_length-le}
-use lib.Seq.{drop-cons, ext_get_or}
-use lib.Dec.{eqb}
-use borrow.Author.Tests.{eqb-true, eqb-false, eq-eqb, ne_eqb}
+use mathlib.Core.Bool.{true, false, ◌&&◌, not, cond}
+use lib.ListN.{length, get_or}
+use lib.Seq.{ext_get_or}
+use lib.Dec.{eqb, ltb}
+use lib.Pointwise.{pointwise}
+use borrow.Author.Tests.{eqb-true, eqb-false, eq-eqb}
 use mir.Syntax.{w8}
 use mir.Val.{Fits}
 use Rattle.std.specs.Prelude.{slice_index}
+use Rattle.std.specs.List.{position, position_or_len}
+use Rattle.std.specs.Option.{unwrap_or}
+use Rattle.std.specs.declared.option.Option.TheVariants.{Some, None}
+use Rattle.std.proofs.lemmas.Bool.{ltb-false}
+use Rattle.std.proofs.lemmas.List.Sums.{prefix_len-le-length}
 use Rattle.format.specs.Bytes.{AreBytes}
+use Rattle.format.specs.Choice.{when◌then◌else◌}
 use Rattle.format.specs.Find.{SLASH, head, same}
-use Rattle.format.proofs.Tools.{split, tested, if_yes, if_no}
+use Rattle.format.proofs.Tools.{split, tested}
 use Rattle.format.proofs.Names.{same_is}
-use Rattle.names.specs.Scan.{Scan, lowest}
+use Rattle.names.specs.Words.{lowest}
 
 -- ---- the same bytes
 
@@ -26,6 +32,14 @@ same_self : (xs : List ℕ) → same xs xs ≡ true
 unfolding same
 same_self [] = refl
 same_self (x ∷ xs) = rw (eq-eqb x x refl, same_self xs)
+
+-- `==` of slices
+pub pairs_same : (xs ys : List ℕ) → pointwise eqb xs ys ≡ same xs ys
+unfolding same
+pairs_same [] [] = refl
+pairs_same [] (y ∷ ys) = refl
+pairs_same (x ∷ xs) [] = refl
+pairs_same (x ∷ xs) (y ∷ ys) = ap (λ r. eqb x y && r) (pairs_same xs ys)
 
 unequal : (xs ys : List ℕ) → (xs ≡ ys → ⊥) → same xs ys ≡ false
 unequal xs ys n = tested (same xs ys) (λ e. absurd (n (same_is xs ys e))) (λ e. e)
@@ -47,15 +61,6 @@ module _ (s t : List ℕ) where
   alike_same size all =
       let e : s ≡ t = ext_get_or 0 s t size (λ i h. all i (omega arith) h) in
       sym (rw e (same_self t))
-
-  pub byte_differs : (i : ℕ) → get_or s i 0 ≢ get_or t i 0 → false ≡ same s t
-  byte_differs i d = sym (unequal s t (λ e. d (ap (λ l. get_or l i 0) e)))
-
-  -- one byte further to the front
-  pub alike_more : (i : ℕ) → Alike i → get_or s (i - 1) 0 ≡ get_or t (i - 1) 0 → Alike (i - 1)
-  alike_more i all e k h l = split i k (λ g. all k g l) (λ g.
-      let same : i - 1 ≡ k = omega arith in
-      rw same at e)
 
   -- ---- a word at a time
 
@@ -99,42 +104,15 @@ module _ (s t : List ℕ) where
 
 -- ---- the first name of a path
 
-pub scan_start : (p : List ℕ) → Scan p 0
-scan_start p = record { inside = omega arith; first = omega arith }
+-- its length is the place of the first slash, or the path's length
+name_length : (p : List ℕ) → position_or_len (λ x. eqb x 0x2f) p ≡ length (head p)
+unfolding head SLASH when◌then◌else◌
+name_length [] = refl
+name_length (c ∷ s) = tested (eqb c 0x2f) (λ e. rw e) (λ e. rw e (omega (arith, name_length s)))
 
--- what follows i begins with the byte there
-first_goes_on : (p : List ℕ) (i : ℕ) → i < length p → get_or p i 0 ≢ 0x2f → head (drop i p) ≡ get_or p i 0 ∷ head (drop (i + 1) p)
-unfolding head SLASH
-first_goes_on p i h d = rw (add-one i, drop-cons p i 0 h) (if_no _ _ (ne_eqb (get_or p i 0) 0x2f d))
+place_or_end : (i n : ℕ) → i ≤ n → unwrap_or (cond (ltb i n) (Some i) None) n ≡ i
+place_or_end i n h = tested (ltb i n) (λ e. rw e) (λ e. rw e (omega (arith, ltb-false i n e)))
 
-pub scan_more : (p : List ℕ) (i : ℕ) → Scan p i → i < length p → get_or p i 0 ≢ 0x2f → Scan p (i + 1)
-scan_more p i x h d = record { inside = omega arith; first = omega (arith, x.first, ap length (first_goes_on p i h d)) }
-
--- two tests that are both made, and both fail
-pub neither : (a b : Bool) → (a || b) ≡ false → (a ≡ false) × (b ≡ false)
-neither true b e = absurd (true≢false e)
-neither false b e = (refl, e)
-
--- four bytes
-pub scan_word : (p : List ℕ) (i : ℕ) → i + 4 ≤ length p → get_or p i 0 ≢ 0x2f → get_or p (i + 1) 0 ≢ 0x2f → get_or p (i + 2) 0 ≢ 0x2f → get_or p (i + 3) 0 ≢ 0x2f
-    → Scan p i → Scan p (i + 4)
-scan_word p i h a b c d x =
-    let e₂ : i + 2 ≡ i + 1 + 1 = omega arith in
-    let e₃ : i + 3 ≡ i + 2 + 1 = omega arith in
-    let e₄ : i + 4 ≡ i + 3 + 1 = omega arith in
-    let one : Scan p (i + 1) = scan_more p i x (omega arith) a in
-    let two : Scan p (i + 2) = rw e₂ (scan_more p (i + 1) one (omega arith) b) in
-    let three : Scan p (i + 3) = rw e₃ (scan_more p (i + 2) two (omega arith) c) in
-    rw e₄ (scan_more p (i + 3) three (omega arith) d)
-
-pub scan_slash : (p : List ℕ) (i : ℕ) → Scan p i → i < length p → get_or p i 0 ≡ 0x2f → i ≡ length (head p)
-unfolding head SLASH
-scan_slash p i x h d =
-    let none : head (drop i p) ≡ [] = rw (drop-cons p i 0 h) (if_yes _ _ (eq-eqb (get_or p i 0) 0x2f d)) in
-    omega (arith, x.first, ap length none)
-
-pub scan_end : (p : List ℕ) (i : ℕ) → Scan p i → length p ≤ i → i ≡ length (head p)
-unfolding head
-scan_end p i x h =
-    let none : head (drop i p) ≡ [] = rw (drop_of_length-le p h) in
-    omega (arith, x.first, ap length none)
+-- what `position` gives, or else the path's length
+pub slash_or_end : (p : List ℕ) → unwrap_or (position (λ x. eqb x 0x2f) p) (length p) ≡ length (head p)
+slash_or_end p = place_or_end _ _ (prefix_len-le-length (λ x. not (eqb x 0x2f)) p) ∙ name_length p

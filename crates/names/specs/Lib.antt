@@ -1,2 +1,2 @@
 -- What private contracts cite: the public ones cite crate format alone.
-pub mod Scan
+pub mod Words

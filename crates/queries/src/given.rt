@@ -1,70 +1,57 @@
 // The letter R: rows from elsewhere, and what a path and a name find in them.
-use crate::lookups::{Looked, Names, Rows};
-use crate::{NODES, PROPERTIES, lookups, tables};
-use lines::{BYTES, Count, NAME, Number};
+use crate::lookups::Looked;
+use crate::{NODES, PROPERTIES, lookups};
+use answers::Answer;
+use lines::{BYTES, NAME};
+use lookup::{Nodes, Rows};
+use std::io::{Result, Write};
 
-// The numbers of a line.
-#[derive(Clone, Copy)]
-enum Numbers {
-    Are(Rows),
-    Bad,
+// BLOB NODES COUNT PROPS COUNT START PATH NAME, and 16 for a bad line.
+pub fn answer(s: &[u8], out: &mut impl Write) -> Result<()> {
+    match look(s) {
+        Some(looked) => lookups::put(out, looked),
+        None => replies::put(out, Answer::alone(lines::BAD)),
+    }
 }
 
 // COUNT PROPS COUNT START, which other fields follow.
-fn numbers_in(s: &[u8]) -> Numbers {
+fn numbers_in(s: &[u8]) -> Option<(usize, usize, usize)> {
     let second = lines::after_two(s);
-    let Number::Is(nodes) = lines::decimal(lines::first(s)) else {
-        return Numbers::Bad;
-    };
-    let Number::Is(props) = lines::decimal(lines::first(second)) else {
-        return Numbers::Bad;
-    };
-    let Number::Is(row) = lines::decimal(lines::first(lines::rest(second))) else {
-        return Numbers::Bad;
-    };
-    Numbers::Are(Rows { nodes, props, row })
+    let nodes = lines::decimal(lines::first(s))?;
+    let props = lines::decimal(lines::first(second))?;
+    let row = lines::decimal(lines::first(lines::rest(second)))?;
+    Some((nodes, props, row))
 }
 
-// BLOB NODES COUNT PROPS COUNT START PATH NAME
-pub fn look(s: &[u8]) -> Looked {
+fn look(s: &[u8]) -> Option<Looked> {
     let mut blob = [0u8; BYTES];
     let mut nodes = [0u32; NODES];
     let mut props = [0u32; PROPERTIES];
     let rest = lines::rest(s);
-    let Count::Is(b) = lines::bytes(lines::first(s), &mut blob) else {
-        return Looked::Bad;
+    let b = lines::bytes(lines::first(s), &mut blob)?;
+    let n = lines::words(lines::first(rest), &mut nodes)?;
+    let p = lines::words(lines::first(lines::after_two(rest)), &mut props)?;
+    let (count, many, row) = numbers_in(lines::rest(rest))?;
+    let rows = Rows {
+        nodes: Nodes {
+            blob: text::upto(&blob, b),
+            table: text::upto(&nodes, n),
+            count,
+        },
+        props: text::upto(&props, p),
+        many,
     };
-    let Count::Is(n) = lines::words(lines::first(rest), &mut nodes) else {
-        return Looked::Bad;
-    };
-    let Count::Is(p) = lines::words(lines::first(lines::after_two(rest)), &mut props) else {
-        return Looked::Bad;
-    };
-    of_tables(
-        text::upto(&blob, b),
-        tables::upto(&nodes, n),
-        tables::upto(&props, p),
-        lines::rest(rest),
+    named(
+        &rows,
+        row,
+        lines::after_two(lines::after_two(lines::rest(rest))),
     )
 }
 
-// COUNT PROPS COUNT START PATH NAME, of a blob and both tables.
-fn of_tables(b: &[u8], nodes: &[u32], props: &[u32], s: &[u8]) -> Looked {
+// PATH NAME, of rows and one of them.
+fn named(rows: &Rows<'_, '_>, row: usize, s: &[u8]) -> Option<Looked> {
     let mut path = [0u8; NAME];
     let mut name = [0u8; NAME];
-    let names = lines::after_two(lines::after_two(s));
-    let Numbers::Are(at) = numbers_in(s) else {
-        return Looked::Bad;
-    };
-    let Names::Are { path: m, name: n } = lookups::read(names, &mut path, &mut name) else {
-        return Looked::Bad;
-    };
-    lookups::all(
-        b,
-        nodes,
-        props,
-        at,
-        text::upto(&path, m),
-        text::upto(&name, n),
-    )
+    let (m, n) = lookups::read(s, &mut path, &mut name)?;
+    Some(lookups::all(rows, row, text::upto(&path, m), text::upto(&name, n)))
 }

@@ -1,7 +1,7 @@
--- Laws for callers and for the proofs here.
 pub mod Outcomes
-pub mod Rounding
+pub mod Tokens
 pub mod Numbers
+pub mod Rounding
 pub mod Strings
 pub mod Parts
 pub mod Determined

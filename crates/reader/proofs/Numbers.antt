@@ -1,61 +1,57 @@
--- Big-endian numbers, a byte at a time and a word at a time, and what the total readers give. Assumes nothing.
-use mathlib.Core.Path.{◌≡◌, ap, ◌∙◌}
-use Prim.Native.Nat.{ℕ, suc, ◌+◌, ◌*◌, ◌≤◌, ◌<◌}
+-- Big-endian numbers by their bytes, and what the total readers give. Assumes nothing.
+use Rattle.std.specs.Prelude.{◌≡◌, ℕ, ◌+◌, ◌*◌, ◌≤◌, List, [], ◌∷◌, length, drop, slice_index}
+use mathlib.Core.Path.{sym, ap, ◌∙◌}
 use native.Mathlib.Omega.{arith}
-use native.Mathlib.Nat.{add-zero}
-use mathlib.Core.List.{List, [], ◌∷◌}
-use lib.ListN.{length, take, drop, get_or, length-drop}
-use lib.Seq.{take-add, take-suc, drop-drop, get_or-drop}
-use Rattle.format.specs.Answer.{or_zero}
+use lib.ListN.{length-drop}
+use lib.Seq.{length-take-le}
+use Rattle.format.specs.Answer.{ok, or_zero}
 use Rattle.format.specs.Bytes.{number, part, value_at, word_at}
 use Rattle.format.specs.Read.{read_be_u32, read_be_u64}
-use Rattle.format.proofs.Bytes.{number_append}
 use Rattle.format.proofs.Read.{read_there}
 use Rattle.reader.proofs.Outcomes.{or_zero_lem}
 
--- one byte more
-more : (high : ℕ) (l : List ℕ) (k : ℕ) → k < length l → number high (take (suc k) l) ≡ number high (take k l) * 256 + get_or l k 0
+pub number_4 : (l : List ℕ) → length l ≡ 4 → number 0 l ≡ slice_index l 0 * 16777216 + slice_index l 1 * 65536 + slice_index l 2 * 256 + slice_index l 3
 unfolding number
-more high l k h = ap (number high) (take-suc l k 0 h) ∙ number_append high (take k l) (get_or l k 0 ∷ [])
+number_4 [] sized = absurd (omega arith)
+number_4 (a ∷ []) sized = absurd (omega arith)
+number_4 (a ∷ b ∷ []) sized = absurd (omega arith)
+number_4 (a ∷ b ∷ c ∷ []) sized = absurd (omega arith)
+number_4 (a ∷ b ∷ c ∷ d ∷ []) sized = omega arith
+number_4 (a ∷ b ∷ c ∷ d ∷ x ∷ xs) sized = absurd (omega arith)
 
--- four bytes after others
-after : (high : ℕ) (l : List ℕ) → 4 ≤ length l → number high (take 4 l) ≡ high * 0x1_0000_0000 + number 0 (take 4 l)
+pub number_8 : (l : List ℕ) → length l ≡ 8 → number 0 l ≡ slice_index l 0 * 72057594037927936 + slice_index l 1 * 281474976710656 + slice_index l 2 * 1099511627776 + slice_index l 3 * 4294967296 + slice_index l 4 * 16777216 + slice_index l 5 * 65536 + slice_index l 6 * 256 + slice_index l 7
 unfolding number
-after high l h =
-    let each : (n k : ℕ) → k < 4 → number n (take (suc k) l) ≡ number n (take k l) * 256 + get_or l k 0 = λ n k i. more n l k (omega arith) in
-    omega (
-      arith,
-      each high 0 (omega arith),
-      each high 1 (omega arith),
-      each high 2 (omega arith),
-      each high 3 (omega arith),
-      each 0 0 (omega arith),
-      each 0 1 (omega arith),
-      each 0 2 (omega arith),
-      each 0 3 (omega arith),
-    )
+number_8 [] sized = absurd (omega arith)
+number_8 (a ∷ []) sized = absurd (omega arith)
+number_8 (a ∷ b ∷ []) sized = absurd (omega arith)
+number_8 (a ∷ b ∷ c ∷ []) sized = absurd (omega arith)
+number_8 (a ∷ b ∷ c ∷ d ∷ []) sized = absurd (omega arith)
+number_8 (a ∷ b ∷ c ∷ d ∷ e ∷ []) sized = absurd (omega arith)
+number_8 (a ∷ b ∷ c ∷ d ∷ e ∷ f ∷ []) sized = absurd (omega arith)
+number_8 (a ∷ b ∷ c ∷ d ∷ e ∷ f ∷ g ∷ []) sized = absurd (omega arith)
+number_8 (a ∷ b ∷ c ∷ d ∷ e ∷ f ∷ g ∷ h ∷ []) sized = omega arith
+number_8 (a ∷ b ∷ c ∷ d ∷ e ∷ f ∷ g ∷ h ∷ x ∷ xs) sized = absurd (omega arith)
+
+part_length : (b : List ℕ) (p n : ℕ) → p + n ≤ length b → length (part b p n) ≡ n
+unfolding part
+part_length b p n h = length-take-le n (drop p b) (rw length-drop (omega arith))
+
+module _ (b : List ℕ) (p : ℕ) {bytes : List ℕ} {n : ℕ} where
+  -- the number of 4 bytes that were read
+  pub word_is : (p + 4 ≤ length b) × (bytes ≡ part b p 4)
+      → n ≡ slice_index bytes 0 * 16777216 + slice_index bytes 1 * 65536 + slice_index bytes 2 * 256 + slice_index bytes 3 → ok n ≡ read_be_u32 b p
+  unfolding value_at
+  word_is (fits, same) e =
+      ap ok (e ∙ sym (number_4 bytes (ap length same ∙ part_length b p 4 fits)) ∙ ap (number 0) same) ∙ sym (read_there b 4 p fits)
+
+  pub long_is : (p + 8 ≤ length b) × (bytes ≡ part b p 8)
+      → n ≡ slice_index bytes 0 * 72057594037927936 + slice_index bytes 1 * 281474976710656 + slice_index bytes 2 * 1099511627776 + slice_index bytes 3 * 4294967296 + slice_index bytes 4 * 16777216 + slice_index bytes 5 * 65536 + slice_index bytes 6 * 256 + slice_index bytes 7
+      → ok n ≡ read_be_u64 b p
+  unfolding value_at
+  long_is (fits, same) e =
+      ap ok (e ∙ sym (number_8 bytes (ap length same ∙ part_length b p 8 fits)) ∙ ap (number 0) same) ∙ sym (read_there b 8 p fits)
 
 module _ (b : List ℕ) (p : ℕ) where
-  -- a word by its four bytes
-  pub word_bytes : p + 4 ≤ length b → word_at b p ≡ ((get_or b p 0 * 256 + get_or b (p + 1) 0) * 256 + get_or b (p + 2) 0) * 256 + get_or b (p + 3) 0
-  unfolding value_at number part
-  word_bytes h =
-      let each : (k : ℕ) → k < 4 → number 0 (take (suc k) (drop p b)) ≡ number 0 (take k (drop p b)) * 256 + get_or b (p + k) 0 =
-      λ k i. more 0 (drop p b) k (rw length-drop (omega arith)) ∙ rw get_or-drop in
-      let none : get_or b (p + 0) 0 ≡ get_or b p 0 = rw add-zero in
-      omega (arith, each 0 (omega arith), each 1 (omega arith), each 2 (omega arith), each 3 (omega arith))
-
-  -- a long by its two words
-  pub long_words : p + 8 ≤ length b → value_at 8 b p ≡ word_at b p * 0x1_0000_0000 + word_at b (p + 4)
-  unfolding value_at part
-  long_words h =
-      ap (number 0) (take-add 4 4 (drop p b) ∙ rw (drop-drop 4 p b))
-      ∙ number_append 0 (take 4 (drop p b)) (take 4 (drop (p + 4) b))
-      ∙ after (number 0 (take 4 (drop p b))) (drop (p + 4) b) (rw length-drop (omega arith))
-
-  -- what `word_at` and `long_at` promise, where the bytes are there
+  -- what `number_at` promises of a word, where its bytes are there
   pub word_total : p + 4 ≤ length b → or_zero (read_be_u32 b p) ≡ word_at b p
   word_total h = or_zero_lem (read_there b 4 p h)
-
-  pub long_total : p + 8 ≤ length b → or_zero (read_be_u64 b p) ≡ value_at 8 b p
-  long_total h = or_zero_lem (read_there b 8 p h)

@@ -1,79 +1,76 @@
 -- A span that a reader gives tells where that which it read stands, so the span lies in the bytes and cuts just that out of them.
 -- Assumes nothing.
+use Rattle.std.specs.Prelude.{Ok, Err}
 use mathlib.Core.Path.{◌≡◌, refl, sym, ap, ◌∙◌}
 use Prim.Native.Nat.{ℕ, ◌+◌, ◌-◌, ◌≤◌, ◌<◌}
 use native.Mathlib.Omega.{arith}
 use mathlib.Core.List.{List, [], ◌∷◌}
+use Rattle.std.proofs.lemmas.List.{take_all}
 use lib.ListN.{length, take, drop, length-append, length-drop}
 use lib.Seq.{length-take-le}
 use borrow.Author.Tests.{leb-true, le-leb, lt-leb, lt-ltb, le-ltb}
-use Rattle.format.specs.Answer.{Refusal, Outcome, ok, refused, ◌>>=◌, numbers, place, span_at, or_empty, unexpected_end_of_input}
+use Rattle.format.specs.Answer.{Outcome, ok, refused, ◌>>=◌, span_at, or_empty, unexpected_end_of_input}
 use Rattle.format.specs.Bytes.{part, Has}
+use Rattle.format.specs.Results.{outcome_of}
 use Rattle.format.specs.Read.{read_bstring0, subslice}
 use Rattle.format.proofs.Answer.{never, ok_same, refused_same, step, checked, then_ok, then_refused, check_ok, check_no}
 use Rattle.format.proofs.Bytes.{has_left}
 use Rattle.format.proofs.Read.{string_read, part_read}
+use Rattle.reader.specs.declared.SliceReadError.{SliceReadError}
 use Rattle.reader.specs.declared.Span.{Span}
-use Rattle.reader.specs.declared.Span.TheVariants.{Part, Short}
-use Rattle.reader.specs.Numbers.{span_numbers}
-use Rattle.reader.specs.Parts.{Within, cut}
-use Rattle.reader.proofs.Outcomes.{span_got, span_short, or_empty_lem}
+use Rattle.reader.specs.Outcomes.{why_of, tells}
+use Rattle.reader.proofs.Outcomes.{why_short, or_empty_lem}
 
--- ---- a span that is known
+-- what the library cuts out from p on
+pub rest_is : (b : List ℕ) (p : ℕ) {rest : List ℕ} → rest ≡ take (length b - p) (drop p b) → rest ≡ drop p b
+rest_is b p e = e ∙ take_all (length b - p) (drop p b) (rw length-drop (omega arith))
 
-pub within_part : (b : List ℕ) {r : Span} {start len : ℕ} → r ≡ Part start len → Within b r → start + len ≤ length b
-unfolding Within
-within_part b e h = rw e at h
-
-pub cut_part : (b : List ℕ) {r : Span} {start len : ℕ} → r ≡ Part start len → cut b r ≡ part b start len
-unfolding cut
-cut_part b e = rw e
-
-pub cut_none : (b : List ℕ) {r : Span} → r ≡ Short → cut b r ≡ []
-unfolding cut
-cut_none b e = rw e
-
--- ---- a span that a reader gives
+-- the first n bytes of it
+pub chunk_there : (b : List ℕ) (p n : ℕ) {rest bytes : List ℕ} → p ≤ length b → rest ≡ drop p b → n ≤ length rest → bytes ≡ take n rest
+    → (p + n ≤ length b) × (bytes ≡ part b p n)
+unfolding part
+chunk_there b p n inside same fits e =
+    let size = ap length same ∙ length-drop p b in
+    (omega arith, e ∙ ap (take n) same)
 
 -- what was read, and that the span tells its place
-pub record Told (p : ℕ) (m : Outcome (List ℕ)) (start len : ℕ) : Type 0 where
+pub record Told (p : ℕ) (m : Outcome (List ℕ)) (s : Span) : Type 0 where
   pub bytes : List ℕ
   pub read : m ≡ ok bytes
-  pub at : start ≡ p
-  pub size : len ≡ length bytes
+  pub at : s.start ≡ p
+  pub size : s.len ≡ length bytes
 
 module _ (p : ℕ) where
-  told : (m : Outcome (List ℕ)) {start len : ℕ} → span_at p m ≡ ok (record { offset = start; size = len }) → Told p m start len
-  unfolding span_at ◌>>=◌
-  told (ok xs) e =
+  pub span_part : (m : Outcome (List ℕ)) {s : Span} → outcome_of {E = SliceReadError} why_of tells (Ok s) ≡ span_at p m → Told p m s
+  unfolding outcome_of tells span_at ◌>>=◌
+  span_part (ok xs) e =
       let same = ok_same e in
-      record { bytes = xs; read = refl; at = sym (ap (λ s. s.offset) same); size = sym (ap (λ s. s.size) same) }
-  told (refused r) e = absurd (never e)
+      record { bytes = xs; read = refl; at = ap (λ s. s.offset) same; size = ap (λ s. s.size) same }
+  span_part (refused r) e = absurd (never (sym e))
 
-  untold : (m : Outcome (List ℕ)) {r : Refusal} → span_at p m ≡ refused r → m ≡ refused r
-  unfolding span_at ◌>>=◌
-  untold (ok xs) e = absurd (never (sym e))
-  untold (refused r) e = ap refused (refused_same e)
+  pub span_none : (m : Outcome (List ℕ)) (x : SliceReadError) → outcome_of {T = Span} why_of tells (Err x) ≡ span_at p m → m ≡ refused unexpected_end_of_input
+  unfolding outcome_of span_at ◌>>=◌
+  span_none (ok xs) x e = absurd (never e)
+  span_none (refused r) x e = ap refused (sym (refused_same e) ∙ why_short x)
 
-  pub span_part : (m : Outcome (List ℕ)) {r : Span} {start len : ℕ} → r ≡ Part start len → span_numbers r ≡ numbers place (span_at p m) → Told p m start len
-  span_part m k e = told m (span_got (span_at p m) k e)
+  -- nothing is cut out where there is no span
+  pub cut_none : (m : Outcome (List ℕ)) (x : SliceReadError) → outcome_of {T = Span} why_of tells (Err x) ≡ span_at p m → [] ≡ or_empty m
+  unfolding or_empty
+  cut_none m x e = sym (ap or_empty (span_none m x e))
 
-  pub span_none : (m : Outcome (List ℕ)) {r : Span} → r ≡ Short → span_numbers r ≡ numbers place (span_at p m) → m ≡ refused unexpected_end_of_input
-  span_none m k e = untold m (span_short (span_at p m) k e)
-
-pub record Cut (b : List ℕ) (r : Span) (xs : List ℕ) : Type 0 where
-  pub within : Within b r
-  pub same : cut b r ≡ xs
+-- the span lies in the bytes, and what is cut out there is what was read
+pub record Cut (b : List ℕ) (s : Span) (xs : List ℕ) : Type 0 where
+  pub within : s.start + s.len ≤ length b
+  pub same : part b s.start s.len ≡ xs
 
 module _ (b : List ℕ) (p : ℕ) where
   -- what was read stands at p, so the span's part is it
-  pub span_cut : (m : Outcome (List ℕ)) → ((xs : List ℕ) → m ≡ ok xs → Has b p xs) → (r : Span) → span_numbers r ≡ numbers place (span_at p m) → Cut b r (or_empty m)
-  unfolding Within cut or_empty
-  span_cut m has (Part start len) e =
-      let t = span_part p m refl e in
+  pub span_cut : (m : Outcome (List ℕ)) → ((xs : List ℕ) → m ≡ ok xs → Has b p xs) → {s : Span} → outcome_of {E = SliceReadError} why_of tells (Ok s) ≡ span_at p m → Cut b s (or_empty m)
+  unfolding part
+  span_cut m has e =
+      let t = span_part p m e in
       let h = has t.bytes t.read in
       record { within = rw (t.at, t.size) h.fits; same = rw (t.at, t.size) (h.same ∙ sym (or_empty_lem t.read)) }
-  span_cut m has Short e = record { within = tt; same = sym (ap or_empty (span_none p m refl e)) }
 
   -- a string stands where it was read, and its zero byte after it
   pub string_has : (xs : List ℕ) → read_bstring0 b p ≡ ok xs → Has b p xs
@@ -108,12 +105,3 @@ module _ (b : List ℕ) (start end : ℕ) where
     part_there h =
         let size : length (take (end - start) (drop start b)) ≡ end - start = length-take-le (end - start) (drop start b) (rw length-drop (omega arith)) in
         then_ok _ _ (then_ok _ _ (check_ok _ (le-leb start end forwards)) (then_ok _ _ (check_ok _ (lt-ltb end (length b) h)) refl)) (rw size)
-
--- the string at p, empty where there is none, lies in the bytes
-pub string_inside : (b : List ℕ) (p : ℕ) → p ≤ length b → p + length (or_empty (read_bstring0 b p)) ≤ length b
-unfolding or_empty
-string_inside b p h = by_case (read_bstring0 b p) refl
-  where
-    by_case : (m : Outcome (List ℕ)) → read_bstring0 b p ≡ m → p + length (or_empty m) ≤ length b
-    by_case (ok xs) e = omega (arith, string_ends b p xs e)
-    by_case (refused r) e = omega arith

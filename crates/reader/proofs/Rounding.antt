@@ -6,12 +6,20 @@ use Prim.Native.Nat.{ℕ, ◌+◌, ◌^◌, ◌≤◌, ◌<◌}
 use native.Mathlib.Omega.{arith}
 use native.Mathlib.Decide.{dec_le}
 use borrow.Author.Tests.{lt-ltb, le-ltb, eq-eqb, ne_eqb}
-use Rattle.format.specs.Answer.{Refusal, ok, refused, unexpected_end_of_input, or_else}
+use Rattle.format.specs.Answer.{Outcome, ok, refused, unexpected_end_of_input, or_else}
 use Rattle.format.specs.Bytes.{align}
 use Rattle.format.specs.Read.{aligned}
-use Rattle.format.proofs.Answer.{never, ok_same, step, then_ok, then_refused, check_ok, check_no}
+use Rattle.format.proofs.Answer.{then_ok, then_refused, check_ok, check_no}
 use Rattle.format.proofs.Bytes.{align_near}
+use Rattle.reader.specs.declared.SliceReadError.{SliceReadError}
+use Rattle.reader.specs.declared.SliceReadError.TheVariants.{UnexpectedEndOfInput}
+use Rattle.reader.specs.Outcomes.{why_of}
 use Rattle.reader.proofs.Outcomes.{or_else_lem}
+use Rattle.std.specs.Prelude.{Result, Ok, Err, Option, Some, None}
+use Rattle.std.specs.Option.{SomeIff, ok_or}
+use Rattle.std.specs.Result.{result_unwrap_or}
+use Rattle.std.specs.Int.{next_multiple_of}
+use Rattle.format.specs.Results.{outcome_of, outcome}
 
 module _ (val to : ℕ) where
   pub aligned_none : to ≡ 0 → aligned val to ≡ refused unexpected_end_of_input
@@ -30,14 +38,19 @@ module _ (val to : ℕ) where
     pub aligned_is : {r : ℕ} → align val to ≡ r → r < 2 ^ 64 → aligned val to ≡ ok r
     aligned_is e h = aligned_there (rw e h) ∙ ap ok e
 
-    -- a refusal says that the number is past the range
-    pub aligned_short : {r : Refusal} → aligned val to ≡ refused r → 2 ^ 64 ≤ align val to
-    aligned_short e =
-        elim (dec_le (2 ^ 64) (align val to)) [ yes h ↦ h | no h ↦ absurd (never (sym e ∙ aligned_there (omega (arith, h)))) ]
-
-  pub aligned_value : {p : ℕ} → aligned val to ≡ ok p → align val to ≡ p
-  unfolding aligned
-  aligned_value e = step _ _ e λ _ _ e. step _ _ e λ _ _ e. ok_same e
+  -- what the library gives
+  pub aligned_by : (o : Option ℕ) {r : Result ℕ SliceReadError} → r ≡ ok_or o UnexpectedEndOfInput
+      → SomeIff o ((0 < to) × (next_multiple_of val to < 2 ^ 64)) (next_multiple_of val to) → outcome why_of r ≡ aligned val to
+  unfolding outcome_of why_of align
+  aligned_by (Some n) e (h, same) = ap (outcome why_of) e ∙ sym (aligned_is (λ z. omega (arith, h.0)) (sym same) (rw (sym same) at h.1))
+  aligned_by None e h =
+      ap (outcome why_of) e ∙ elim (dec_le to 0) [
+        | yes z ↦ sym (aligned_none (omega arith))
+        | no z ↦ elim (dec_le (2 ^ 64) (align val to)) [
+          | yes k ↦ sym (aligned_past (λ z'. omega arith) k)
+          | no k ↦ absurd (h (omega arith, omega arith))
+        ]
+      ]
 
 -- rounding up to a word
 pub aligned_4 : (val : ℕ) → val + 3 < 2 ^ 64 → aligned val 4 ≡ ok (align val 4)
@@ -46,3 +59,9 @@ aligned_4 val h = aligned_there val 4 (λ e. omega arith) (omega (arith, align_n
 -- what `aligned` promises of a position, where the range does not end
 pub aligned_total : (val : ℕ) → val + 3 < 2 ^ 64 → or_else val (aligned val 4) ≡ align val 4
 aligned_total val h = or_else_lem val (aligned_4 val h)
+
+-- the number of an answer, or one given
+pub or_given : (d : ℕ) (r : Result ℕ SliceReadError) {m : Outcome ℕ} → outcome why_of r ≡ m → result_unwrap_or r d ≡ or_else d m
+unfolding outcome_of or_else
+or_given d (Ok n) e = ap (or_else d) e
+or_given d (Err x) e = ap (or_else d) e

@@ -1,4 +1,2 @@
--- What the promises cite (Numbers), what callers turn them into (Outcomes), and what private contracts cite (Parts).
-pub mod Numbers
+-- What the promises cite.
 pub mod Outcomes
-pub mod Parts

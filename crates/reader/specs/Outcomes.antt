@@ -1,34 +1,30 @@
--- Each answer as the outcome that it stands for. No promise cites these: callers turn a promise into them (proofs/Outcomes.antt).
-use Rattle.std.specs.Prelude.{ℕ}
-use Rattle.format.specs.Answer.{Outcome, ok, refused, unexpected_end_of_input}
+-- What the promises cite: which refusal an error is, by document 01 ("When the reader says no"), what a place tells, and the tokens.
+use Rattle.std.specs.Prelude.{ℕ, List, ◌==◌, cond}
+use Rattle.format.specs.Answer.{Refusal, unexpected_end_of_input, Outcome, ok, ◌>>=◌}
 use Rattle.format.specs.Answer as answer
-use Rattle.reader.specs.declared.Word.{Word}
-use Rattle.reader.specs.declared.Word.TheVariants as word
-use Rattle.reader.specs.declared.Long.{Long}
-use Rattle.reader.specs.declared.Long.TheVariants as long
-use Rattle.reader.specs.declared.Place.{Place}
-use Rattle.reader.specs.declared.Place.TheVariants as place
+use Rattle.format.specs.Format.{BEGIN_NODE, END_NODE, PROP}
+use Rattle.format.specs.Read.{read_be_u32}
+use Rattle.reader.specs.declared.SliceReadError.{SliceReadError}
+use Rattle.reader.specs.declared.SliceReadError.TheVariants.{UnexpectedEndOfInput}
 use Rattle.reader.specs.declared.Span.{Span}
-use Rattle.reader.specs.declared.Span.TheVariants as span
-use Rattle.reader.specs.declared.Read.{Read}
-use Rattle.reader.specs.declared.Read.TheVariants as token
+use Rattle.reader.specs.declared.Token.{Token}
+use Rattle.reader.specs.declared.Token.TheVariants.{BeginNode, EndNode, Prop, Other}
 
-unfoldable pub word_outcome : Word → Outcome ℕ
-word_outcome (word.Got n) = ok n
-word_outcome word.Short = refused unexpected_end_of_input
+unfoldable pub why_of : SliceReadError → Refusal
+why_of UnexpectedEndOfInput = unexpected_end_of_input
 
-unfoldable pub long_outcome : Long → Outcome ℕ
-long_outcome (long.Got n) = ok n
-long_outcome long.Short = refused unexpected_end_of_input
+unfoldable pub tells : Span → answer.Span
+tells s = record { offset = s.start; size = s.len }
 
-unfoldable pub place_outcome : Place → Outcome ℕ
-place_outcome (place.At p) = ok p
-place_outcome place.Short = refused unexpected_end_of_input
+-- the token that a word is, and the word of a token
+unfoldable pub token_of : ℕ → Token
+token_of n = cond (n == BEGIN_NODE) BeginNode (cond (n == END_NODE) EndNode (cond (n == PROP) Prop (Other n)))
 
-unfoldable pub span_outcome : Span → Outcome answer.Span
-span_outcome (span.Part start len) = ok (record { offset = start; size = len })
-span_outcome span.Short = refused unexpected_end_of_input
+unfoldable pub number_of : Token → ℕ
+number_of BeginNode = BEGIN_NODE
+number_of EndNode = END_NODE
+number_of Prop = PROP
+number_of (Other n) = n
 
-unfoldable pub token_outcome : Read → Outcome ℕ
-token_outcome (token.Got t) = ok t.number
-token_outcome token.Short = refused unexpected_end_of_input
+unfoldable pub token_at : List ℕ → ℕ → Outcome Token
+token_at b p = read_be_u32 b p >>= λ n. ok (token_of n)

@@ -1,32 +1,27 @@
 // An answer as text: its numbers by single spaces.
 #![tactic(auto)]
 
-mod numbers;
-
 use answers::Answer;
-pub use numbers::{count, nth};
-use text::{Output, ROOM};
+use std::io::{Result, Write};
 
 // An answer.
-pub fn put(rt: &HostRuntime, text: &mut [u8; ROOM], from: Output, answer: Answer) -> Output {
-    let count = count(answer);
-    let mut out = text::number(rt, text, from, nth(answer, 0));
-    let mut i = 1;
-    while i < count {
-        out = text::value(rt, text, out, nth(answer, i));
-        i += 1;
+pub fn put(out: &mut impl Write, answer: Answer) -> Result<()> {
+    let mut before = "";
+    for n in answer.numbers() {
+        write!(out, "{before}{n}")?;
+        before = " ";
     }
-    out
+    Ok(())
 }
 
 // Begins a part of a line's answer that follows another. What it tells comes after a space.
-pub fn part(rt: &HostRuntime, text: &mut [u8; ROOM], out: Output) -> Output {
-    text::bytes(rt, text, out, b" ;")
+pub fn part(out: &mut impl Write) -> Result<()> {
+    out.write_all(b" ;")
 }
 
 // An answer as a part that follows others.
-pub fn further(rt: &HostRuntime, text: &mut [u8; ROOM], out: Output, answer: Answer) -> Output {
-    let begun = part(rt, text, out);
-    let apart = text::byte(rt, text, begun, b' ');
-    put(rt, text, apart, answer)
+pub fn further(out: &mut impl Write, answer: Answer) -> Result<()> {
+    part(out)?;
+    out.write_all(b" ")?;
+    put(out, answer)
 }

@@ -1,119 +1,126 @@
 // Bytes that are not our own, shown so that no terminal is harmed and no line is broken: what is not printable ASCII stands
 // as \xNN, and a backslash as two.
-use text::{Output, ROOM};
+ghost use Rattle.std.specs.Prelude.{◌≡◌, ◌<◌, ℕ, List, flat_map, Some};
+ghost use Rattle.std.specs.Fmt.{WritesOnOk};
+ghost use Rattle.show.specs.Escaped as escaped;
+ghost use Rattle.show.specs.Told.{told};
 
-// What the bytes are: a line or a part of it, a name, or a list of strings without the last one's zero.
-#[derive(Clone, Copy)]
-enum Bytes {
-    Line,
-    Name,
-    Strings,
-}
+use std::fmt::{Display, Formatter, Result, Write};
 
 // How a byte is shown: as it is, behind a backslash, as \xNN, or as what stands between two strings.
 #[derive(Clone, Copy)]
 enum Shown {
-    Plain,
-    Behind,
-    Number,
+    Plain(u8),
+    Behind(u8),
+    Number(u8),
     Between,
 }
 
-// From the space to the tilde.
-pub fn printable(b: u8) -> bool {
-    if b < b' ' {
-        return false;
+impl Display for Shown {
+    ghost output = { λ s. Some (told s) };
+
+    fn fmt<W: Write>(&self, f: &mut Formatter<W>) -> Result {
+        match *self {
+            Shown::Plain(b) => f.write_char(char::from(b)),
+            Shown::Behind(b) => {
+                f.write_char('\\')?;
+                f.write_char(char::from(b))
+            }
+            Shown::Number(b) => write!(f, "\\x{b:02x}"),
+            Shown::Between => f.write_str("\", \""),
+        }
     }
-    b <= b'~'
 }
 
-fn in_line(b: u8) -> Shown {
+// From the space to the tilde.
+pub fn printable(b: u8) -> bool
+    ensures { result ≡ escaped.is_printable b }
+{
+    matches!(b, b' '..=b'~')
+}
+
+fn in_line(b: u8) -> Shown
+    ensures { told result ≡ escaped.in_line b }
+{
     if b == b'\\' {
-        return Shown::Behind;
+        return Shown::Behind(b);
     }
     if printable(b) {
-        return Shown::Plain;
+        return Shown::Plain(b);
     }
-    Shown::Number
+    Shown::Number(b)
 }
 
 // Letters, digits and # * + , - . ? @ _ can stand in a name of .dts text. Any other byte would be taken for something else there.
-fn in_name(b: u8) -> Shown {
+fn in_name(b: u8) -> Shown
+    ensures { told result ≡ escaped.in_name b }
+{
     match b {
-        b'#' => Shown::Plain,
-        b'*'..=b'.' => Shown::Plain,
-        b'0'..=b'9' => Shown::Plain,
-        b'?'..=b'Z' => Shown::Plain,
-        b'_' => Shown::Plain,
-        b'a'..=b'z' => Shown::Plain,
-        _ => Shown::Number,
+        b'#' | b'*'..=b'.' | b'0'..=b'9' | b'?'..=b'Z' | b'_' | b'a'..=b'z' => Shown::Plain(b),
+        _ => Shown::Number(b),
     }
 }
 
-fn in_strings(b: u8) -> Shown {
+fn in_strings(b: u8) -> Shown
+    ensures { told result ≡ escaped.in_strings b }
+{
     match b {
         0 => Shown::Between,
-        b'"' => Shown::Behind,
+        b'"' => Shown::Behind(b),
         _ => in_line(b),
     }
 }
 
-fn how_of(bytes: Bytes, b: u8) -> Shown {
-    match bytes {
-        Bytes::Line => in_line(b),
-        Bytes::Name => in_name(b),
-        Bytes::Strings => in_strings(b),
+fn all<W: Write, F: Fn(u8) -> Shown>(f: &mut Formatter<W>, s: &[u8], how: F) -> Result
+    requires { F.IsAlwaysCallable how }
+    ensures { (shown : ℕ → List ℕ) → ((b : ℕ) (r : _) → b < 256 → F.post how b r → told r ≡ shown b) → WritesOnOk W.write_str_gives f.old result (flat_map shown s.now) f.new }
+{
+    for b in s {
+        how(*b).fmt(f)?;
     }
-}
-
-fn number(rt: &HostRuntime, text: &mut [u8; ROOM], out: Output, b: u8) -> Output {
-    let begun = text::byte(rt, text, out, b'\\');
-    let begun = text::byte(rt, text, begun, b'x');
-    text::digits(rt, text, begun, text::short(b), 2)
-}
-
-fn put(rt: &HostRuntime, text: &mut [u8; ROOM], out: Output, b: u8, how: Shown) -> Output {
-    match how {
-        Shown::Plain => text::byte(rt, text, out, b),
-        Shown::Behind => {
-            let begun = text::byte(rt, text, out, b'\\');
-            text::byte(rt, text, begun, b)
-        }
-        Shown::Number => number(rt, text, out, b),
-        Shown::Between => text::bytes(rt, text, out, b"\", \""),
-    }
-}
-
-fn all(rt: &HostRuntime, text: &mut [u8; ROOM], from: Output, s: &[u8], bytes: Bytes) -> Output {
-    let mut out = from;
-    let mut i = 0;
-    while i < s.len() {
-        let b = s[i];
-        out = put(rt, text, out, b, how_of(bytes, b));
-        i += 1;
-    }
-    out
+    Ok(())
 }
 
 // Bytes in a line: a file, a path, a text.
-pub fn line(rt: &HostRuntime, text: &mut [u8; ROOM], out: Output, s: &[u8]) -> Output {
-    all(rt, text, out, s, Bytes::Line)
+#[derive(Clone, Copy)]
+pub struct Line<'a>(pub &'a [u8]);
+
+impl Display for Line<'_> {
+    ghost output = { λ s. Some (escaped.line s.0.now) };
+
+    fn fmt<W: Write>(&self, f: &mut Formatter<W>) -> Result {
+        all(f, self.0, in_line)
+    }
 }
 
 // The name of a node or a property.
-pub fn name(rt: &HostRuntime, text: &mut [u8; ROOM], out: Output, s: &[u8]) -> Output {
-    if s.len() == 0 {
-        return text::bytes(rt, text, out, b"/* no name */");
+#[derive(Clone, Copy)]
+pub struct Name<'a>(pub &'a [u8]);
+
+impl Display for Name<'_> {
+    ghost output = { λ s. Some (escaped.name s.0.now) };
+
+    fn fmt<W: Write>(&self, f: &mut Formatter<W>) -> Result {
+        if self.0.is_empty() {
+            return f.write_str("/* no name */");
+        }
+        all(f, self.0, in_name)
     }
-    all(rt, text, out, s, Bytes::Name)
 }
 
 // A list of strings, of which a zero ends each, between quotation marks.
-pub fn strings(rt: &HostRuntime, text: &mut [u8; ROOM], out: Output, s: &[u8]) -> Output {
-    if s.len() == 0 {
-        return out;
+#[derive(Clone, Copy)]
+pub struct Strings<'a>(pub &'a [u8]);
+
+impl Display for Strings<'_> {
+    ghost output = { λ s. Some (escaped.strings s.0.now) };
+
+    fn fmt<W: Write>(&self, f: &mut Formatter<W>) -> Result {
+        let Some((_, s)) = self.0.split_last() else {
+            return Ok(());
+        };
+        f.write_char('"')?;
+        all(f, s, in_strings)?;
+        f.write_char('"')
     }
-    let begun = text::byte(rt, text, out, b'"');
-    let told = all(rt, text, begun, text::upto(s, s.len() - 1), Bytes::Strings);
-    text::byte(rt, text, told, b'"')
 }

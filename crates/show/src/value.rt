@@ -1,158 +1,134 @@
 // A property's value as .dts text: strings where it is text, else cells where its length is a multiple of theirs, else bytes. Text
 // of such a length could be cells as well, and they stand behind it in a comment.
-ghost use Rattle.std.specs.Prelude.{◌<◌, ◌≤◌, length};
+ghost use Rattle.std.specs.Prelude.{Some};
+ghost use Rattle.show.specs.Escaped.{pairs};
 
-use crate::escape;
-use text::{Output, ROOM};
+use crate::escape::{self, Name, Strings};
+use std::fmt::{Display, Formatter, Result, Write};
 
-// How many bytes a cell has, and how many a number where there are no cells.
+// How many bytes a cell has.
 const CELL: usize = 4;
 
-const BYTE: usize = 1;
-
-// Whether a byte may follow another in a list of strings: printable, or the zero that ends a string of a byte or more.
-fn may_follow(b: u8, before: u8) -> bool {
-    if b == 0 {
-        return before != 0;
-    }
-    escape::printable(b)
+// A byte or more, all of them printable.
+fn is_string(s: &[u8]) -> bool {
+    !s.is_empty() && s.iter().all(|b| escape::printable(*b))
 }
 
-// Whether a value is a list of strings: each has a byte or more, all of them printable, and a zero behind it.
+// Whether a value is a list of strings, with a zero behind each.
 fn is_text(v: &[u8]) -> bool {
-    let mut before = 0;
-    let mut i = 0;
-    while i < v.len() {
-        let b = v[i];
-        if !may_follow(b, before) {
-            return false;
-        }
-        before = b;
-        i += 1;
+    match v.split_last() {
+        Some((0, strings)) => strings.split(|b| *b == 0).all(is_string),
+        _ => false,
     }
-    if i == 0 {
-        return false;
-    }
-    before == 0
-}
-
-// A space before all but the first of a row of things.
-fn apart(rt: &HostRuntime, text: &mut [u8; ROOM], out: Output, at: usize) -> Output {
-    if at == 0 {
-        return out;
-    }
-    text::byte(rt, text, out, b' ')
-}
-
-// The number at a position: a cell, or the two digits of a byte.
-fn number(
-    rt: &HostRuntime,
-    text: &mut [u8; ROOM],
-    out: Output,
-    v: &[u8],
-    at: usize,
-    width: usize,
-) -> Output
-    requires { at < length v.now }
-{
-    if width == CELL {
-        return text::hex(rt, text, out, text::word(reader::word_at(v, at)), 8);
-    }
-    text::digits(rt, text, out, text::short(v[at]), 2)
-}
-
-// A value's numbers, each of so many bytes.
-fn numbers(rt: &HostRuntime, text: &mut [u8; ROOM], from: Output, v: &[u8], width: usize) -> Output
-    requires { (0 < width) × (width ≤ 4) }
-{
-    let mut out = from;
-    let mut at = 0;
-    while at < v.len() {
-        let next = apart(rt, text, out, at);
-        out = number(rt, text, next, v, at, width);
-        at += width;
-    }
-    out
-}
-
-// The same between brackets.
-fn listed(
-    rt: &HostRuntime,
-    text: &mut [u8; ROOM],
-    out: Output,
-    v: &[u8],
-    width: usize,
-    first: u8,
-    last: u8,
-) -> Output
-    requires { (0 < width) × (width ≤ 4) }
-{
-    let begun = text::byte(rt, text, out, first);
-    let told = numbers(rt, text, begun, v, width);
-    text::byte(rt, text, told, last)
-}
-
-fn cells(rt: &HostRuntime, text: &mut [u8; ROOM], out: Output, v: &[u8]) -> Output {
-    listed(rt, text, out, v, CELL, b'<', b'>')
-}
-
-fn put(rt: &HostRuntime, text: &mut [u8; ROOM], out: Output, v: &[u8], is_text: bool) -> Output {
-    if is_text {
-        return escape::strings(rt, text, out, v);
-    }
-    if v.len() % CELL == 0 {
-        return cells(rt, text, out, v);
-    }
-    listed(rt, text, out, v, BYTE, b'[', b']')
-}
-
-// The other reading, where there is one, as a comment.
-fn other(rt: &HostRuntime, text: &mut [u8; ROOM], out: Output, v: &[u8], is_text: bool) -> Output {
-    if !is_text {
-        return out;
-    }
-    if v.len() % CELL != 0 {
-        return out;
-    }
-    let begun = text::bytes(rt, text, out, b" // or ");
-    cells(rt, text, begun, v)
 }
 
 // The bytes as pairs of hexadecimal digits.
-pub fn pairs(rt: &HostRuntime, text: &mut [u8; ROOM], out: Output, v: &[u8]) -> Output {
-    numbers(rt, text, out, v, BYTE)
+#[derive(Clone, Copy)]
+pub struct Pairs<'a>(pub &'a [u8]);
+
+impl Display for Pairs<'_> {
+    ghost output = { λ v. Some (pairs v.0.now) };
+
+    fn fmt<W: Write>(&self, f: &mut Formatter<W>) -> Result {
+        let Some((first, rest)) = self.0.split_first() else {
+            return Ok(());
+        };
+        write!(f, "{first:02x}")?;
+        for b in rest {
+            write!(f, " {b:02x}")?;
+        }
+        Ok(())
+    }
+}
+
+// A value's cells, between brackets.
+#[derive(Clone, Copy)]
+struct Cells<'a>(&'a [u8]);
+
+impl Display for Cells<'_> {
+    fn fmt<W: Write>(&self, f: &mut Formatter<W>) -> Result {
+        let (cells, _) = self.0.as_chunks::<CELL>();
+        let mut apart = "";
+        f.write_char('<')?;
+        for cell in cells {
+            let n = u32::from_be_bytes(*cell);
+            write!(f, "{apart}0x{n:08x}")?;
+            apart = " ";
+        }
+        f.write_char('>')
+    }
+}
+
+// How a value is shown. Text of whole cells may be either.
+#[derive(Clone, Copy)]
+enum Form<'a> {
+    Strings(Strings<'a>),
+    Either(Strings<'a>, Cells<'a>),
+    Cells(Cells<'a>),
+    Bytes(Pairs<'a>),
+}
+
+impl<'a> Form<'a> {
+    fn of(v: &'a [u8]) -> Form<'a> {
+        match (is_text(v), v.len() % CELL == 0) {
+            (true, true) => Form::Either(Strings(v), Cells(v)),
+            (true, false) => Form::Strings(Strings(v)),
+            (false, true) => Form::Cells(Cells(v)),
+            (false, false) => Form::Bytes(Pairs(v)),
+        }
+    }
+
+    // The other reading, where there is one, as a comment.
+    fn other<W: Write>(self, f: &mut Formatter<W>) -> Result {
+        match self {
+            Form::Either(_, cells) => write!(f, " // or {cells}"),
+            _ => Ok(()),
+        }
+    }
+}
+
+impl Display for Form<'_> {
+    fn fmt<W: Write>(&self, f: &mut Formatter<W>) -> Result {
+        match *self {
+            Form::Strings(strings) | Form::Either(strings, _) => strings.fmt(f),
+            Form::Cells(cells) => cells.fmt(f),
+            Form::Bytes(pairs) => write!(f, "[{pairs}]"),
+        }
+    }
 }
 
 // A value by itself.
-pub fn alone(rt: &HostRuntime, text: &mut [u8; ROOM], out: Output, v: &[u8]) -> Output {
-    if v.len() == 0 {
-        return text::bytes(rt, text, out, b"// no bytes");
+#[derive(Clone, Copy)]
+pub struct Alone<'a>(pub &'a [u8]);
+
+impl Display for Alone<'_> {
+    fn fmt<W: Write>(&self, f: &mut Formatter<W>) -> Result {
+        let v = self.0;
+        if v.is_empty() {
+            return f.write_str("// no bytes");
+        }
+        let form = Form::of(v);
+        form.fmt(f)?;
+        form.other(f)
     }
-    let is_text = is_text(v);
-    let out = put(rt, text, out, v, is_text);
-    other(rt, text, out, v, is_text)
 }
 
-// What follows the name of a property that is not empty, in its line.
-fn assigned(rt: &HostRuntime, text: &mut [u8; ROOM], out: Output, v: &[u8]) -> Output {
-    let is_text = is_text(v);
-    let out = text::bytes(rt, text, out, b" = ");
-    let out = put(rt, text, out, v, is_text);
-    let out = text::byte(rt, text, out, b';');
-    other(rt, text, out, v, is_text)
+// A property's name and value, in its line. An empty value is the name alone.
+#[derive(Clone, Copy)]
+pub struct Property<'a> {
+    pub name: &'a [u8],
+    pub value: &'a [u8],
 }
 
-// What a property's name and value come to. An empty value is the name alone.
-pub fn property(
-    rt: &HostRuntime,
-    text: &mut [u8; ROOM],
-    out: Output,
-    name: &[u8],
-    v: &[u8],
-) -> Output {
-    let out = escape::name(rt, text, out, name);
-    if v.len() == 0 {
-        return text::byte(rt, text, out, b';');
+impl Display for Property<'_> {
+    fn fmt<W: Write>(&self, f: &mut Formatter<W>) -> Result {
+        let v = self.value;
+        Name(self.name).fmt(f)?;
+        if v.is_empty() {
+            return f.write_char(';');
+        }
+        let form = Form::of(v);
+        write!(f, " = {form};")?;
+        form.other(f)
     }
-    assigned(rt, text, out, v)
 }

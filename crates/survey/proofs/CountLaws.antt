@@ -25,6 +25,7 @@ use Rattle.format.proofs.Tools.{if_yes, if_no, if_went}
 use Rattle.format.proofs.Read.{part_read}
 use Rattle.format.proofs.Loops.{property_moves_lem, properties_turn, nodes_turn}
 use Rattle.format.proofs.Turns.{next_of}
+use Rattle.reader.specs.declared.Span.{Span}
 use Rattle.reader.proofs.Parts.{Told, string_has, string_ends}
 use Rattle.reader.proofs.Rounding.{aligned_total}
 use Rattle.survey.specs.declared.Block.{Block}
@@ -39,15 +40,15 @@ unfolding part
 cut b p n = let e : p + n - p ≡ n = omega arith in rw e
 
 -- a string by the place that the reader tells
-told_cut : (b : List ℕ) (p : ℕ) {start len : ℕ} (t : Told p (read_bstring0 b p) start len) → take (p + len - p) (drop p b) ≡ t.bytes
-told_cut b p {start} {len} t = cut b p len ∙ ap (part b p) t.size ∙ (string_has b p t.bytes t.read).same
+told_cut : (b : List ℕ) (p : ℕ) {s : Span} (t : Told p (read_bstring0 b p) s) → take (p + s.len - p) (drop p b) ≡ t.bytes
+told_cut b p {s} t = cut b p s.len ∙ ap (part b p) t.size ∙ (string_has b p t.bytes t.read).same
 
-pub told_inside : (b : List ℕ) (p : ℕ) {start len : ℕ} → Told p (read_bstring0 b p) start len → p + len < length b
+pub told_inside : (b : List ℕ) (p : ℕ) {s : Span} → Told p (read_bstring0 b p) s → p + s.len < length b
 told_inside b p t = omega (arith, t.size, string_ends b p t.bytes t.read)
 
 -- a name in the strings block ends inside it, so the sum of its place and its length fits
-pub name_ends : {b : List ℕ} {strings : Block} (p : ℕ) {start len : ℕ} → Small b strings → Told p (read_bstring0 (take strings.end b) p) start len
-    → (p + len < 2 ^ 64) × (p + len ≤ length (take strings.end b))
+pub name_ends : {b : List ℕ} {strings : Block} (p : ℕ) {s : Span} → Small b strings → Told p (read_bstring0 (take strings.end b) p) s
+    → (p + s.len < 2 ^ 64) × (p + s.len ≤ length (take strings.end b))
 name_ends {b} {strings} p small t =
     let inside = told_inside (take strings.end b) p t in
     let long = length-take-le strings.end b small.end in
@@ -149,7 +150,7 @@ module _ (b : List ℕ) (strings : Block) where
         pub prop_no_value : {r : Refusal} → subslice b (p + 12) (p + 12 + size) ≡ refused r → prop_next p ≡ refused r
         prop_no_value e = prop_steps ∙ then_ok _ _ isSize (then_ok _ _ isOffset (then_refused _ _ e))
 
-        module _ {at len : ℕ} (value : Told (p + 12) (subslice b (p + 12) (p + 12 + size)) at len) where
+        module _ {at : Span} (value : Told (p + 12) (subslice b (p + 12) (p + 12 + size)) at) where
           valued : prop_next p ≡ (read_bstring0 (take strings.end b) (strings.start + offset) >>= λ name.
               utf8_check name >>= λ _.
               ok (align (p + 12 + size) 4))
@@ -158,10 +159,10 @@ module _ (b : List ℕ) (strings : Block) where
           pub prop_no_name : {r : Refusal} → read_bstring0 (take strings.end b) (strings.start + offset) ≡ refused r → prop_next p ≡ refused r
           prop_no_name e = valued ∙ then_refused _ _ e
 
-          module _ {start long : ℕ} (name : Told (strings.start + offset) (read_bstring0 (take strings.end b) (strings.start + offset)) start long) where
+          module _ {s : Span} (name : Told (strings.start + offset) (read_bstring0 (take strings.end b) (strings.start + offset)) s) where
             -- the name's bytes, as the code cuts them out
             abbrev name_bytes : List ℕ
-            name_bytes = take (strings.start + offset + long - (strings.start + offset)) (drop (strings.start + offset) (take strings.end b))
+            name_bytes = take (strings.start + offset + s.len - (strings.start + offset)) (drop (strings.start + offset) (take strings.end b))
 
             judged : prop_next p ≡ (utf8_check name_bytes >>= λ _. ok (align (p + 12 + size) 4))
             judged = valued ∙ then_ok _ _ name.read (rw (told_cut (take strings.end b) (strings.start + offset) name))
@@ -230,17 +231,17 @@ module _ (b : List ℕ) (strings : Block) where
         pub head_no_name : {r : Refusal} → read_bstring0 b (p + 4) ≡ refused r → head_of b (block strings) p ≡ refused r
         head_no_name e = opened ∙ then_refused _ _ e
 
-        module _ {start len : ℕ} (small : length b < 2 ^ 32) (name : Told (p + 4) (read_bstring0 b (p + 4)) start len)
-            {q : ℕ} (is_next : q ≡ or_else (p + 4 + len + 1) (aligned (p + 4 + len + 1) 4)) where
-          named : head_of b (block strings) p ≡ (all_props q >>= λ own. ok (record { len = len; next = own.next; props = own.props }))
+        module _ {s : Span} (small : length b < 2 ^ 32) (name : Told (p + 4) (read_bstring0 b (p + 4)) s)
+            {q : ℕ} (is_next : q ≡ or_else (p + 4 + s.len + 1) (aligned (p + 4 + s.len + 1) 4)) where
+          named : head_of b (block strings) p ≡ (all_props q >>= λ own. ok (record { len = s.len; next = own.next; props = own.props }))
           named =
               let inside = told_inside b (p + 4) name in
-              opened ∙ then_ok _ _ name.read (rw (is_next ∙ aligned_total (p + 4 + len + 1) (omega arith), name.size))
+              opened ∙ then_ok _ _ name.read (rw (is_next ∙ aligned_total (p + 4 + s.len + 1) (omega arith), name.size))
 
           pub head_bad : {r : Refusal} → all_props q ≡ refused r → head_of b (block strings) p ≡ refused r
           head_bad e = named ∙ then_refused _ _ e
 
-          pub head_good : {own : Props} → all_props q ≡ ok own → head_of b (block strings) p ≡ ok (record { len = len; next = own.next; props = own.props })
+          pub head_good : {own : Props} → all_props q ≡ ok own → head_of b (block strings) p ≡ ok (record { len = s.len; next = own.next; props = own.props })
           head_good e = named ∙ then_ok _ _ e refl
 
   -- ---- sizes

@@ -3,14 +3,14 @@ use mathlib.Core.Path.{◌≡◌, refl, sym, ap, ◌∙◌}
 use Prim.Native.Nat.{ℕ}
 use mathlib.Core.List.{List}
 use Rattle.format.specs.Answer as answer
-use Rattle.format.specs.Answer.{Outcome, ok, refused}
-use Rattle.survey.specs.Outcomes.{why_of, survey_outcome}
+use Rattle.format.specs.Results.{outcome}
+use Rattle.format.proofs.Results.{outcome_same}
+use Rattle.std.specs.Prelude.{Result}
+use Rattle.survey.specs.Outcomes.{why_of}
 use Rattle.survey.specs.Survey.{survey_of}
 use Rattle.survey.specs.declared.DeviceTreeError.{DeviceTreeError}
 use Rattle.survey.specs.declared.DeviceTreeError.TheVariants.{InvalidMagicNumber, SizeMismatch, UnexpectedEndOfInput, ParseError, Utf8Error, VersionNotSupported, TooDeep, ReservationRoom, NodeRoom, PropertyRoom}
 use Rattle.survey.specs.declared.Plan.{Plan}
-use Rattle.survey.specs.declared.Surveyed.{Surveyed}
-use Rattle.survey.specs.declared.Surveyed.TheVariants.{Good, Refused}
 
 -- an answer's refusal from the outcome's
 unfoldable pub error_of : answer.Refusal → DeviceTreeError
@@ -42,14 +42,8 @@ error_back (ReservationRoom n) = refl
 error_back (NodeRoom n) = refl
 error_back (PropertyRoom n) = refl
 
-back : Outcome Plan → Surveyed
-back (ok v) = Good v
-back (refused r) = Refused (error_of r)
+why_same : (x y : DeviceTreeError) → why_of x ≡ why_of y → x ≡ y
+why_same x y e = sym (error_back x) ∙ ap error_of e ∙ error_back y
 
-answer_back : (r : Surveyed) → back (survey_outcome r) ≡ r
-unfolding back survey_outcome
-answer_back (Good v) = refl
-answer_back (Refused why) = ap Refused (error_back why)
-
-pub survey_determined : (b : List ℕ) (r s : Surveyed) → survey_outcome r ≡ survey_of b → survey_outcome s ≡ survey_of b → r ≡ s
-survey_determined b r s h k = sym (answer_back r) ∙ ap back (h ∙ sym k) ∙ answer_back s
+pub survey_determined : (b : List ℕ) (r s : Result Plan DeviceTreeError) → outcome why_of r ≡ survey_of b → outcome why_of s ≡ survey_of b → r ≡ s
+survey_determined b r s h k = outcome_same why_of (λ v. v) (λ v w e. e) why_same r s (h ∙ sym k)

@@ -1,3 +1,4 @@
+pub mod Exits
 -- Laws for callers (FoundLaws, ReserveLaws, Determined) and for the proofs here.
 pub mod CountLaws
 pub mod Determined

@@ -1,10 +1,11 @@
 // The header: the first words of a blob.
 ghost use Rattle.std.specs.Prelude.{◌≡◌};
-ghost use Rattle.survey.specs.Outcomes.{header_outcome};
+ghost use Rattle.format.specs.Results.{outcome};
+ghost use Rattle.survey.specs.Outcomes.{why_of};
 ghost use Rattle.survey.specs.Survey.{header_of};
 
 use crate::DeviceTreeError;
-use reader::Word;
+use reader::read_be;
 
 const MAGIC_NUMBER: u32 = 0xd00dfeed;
 
@@ -19,41 +20,30 @@ pub(crate) struct Header {
     pub(crate) boot: u32,
 }
 
-#[derive(Clone, Copy)]
-pub(crate) enum HeaderRead {
-    Good(Header),
-    Refused(DeviceTreeError),
-}
-
 // The magic number, the length and the version, in the order in which they are judged.
-pub(crate) fn judge_header(b: &[u8]) -> HeaderRead
-    ensures { header_outcome result ≡ header_of b.now }
+pub(crate) fn judge_header(b: &[u8]) -> Result<Header, DeviceTreeError>
+    ensures { outcome why_of result ≡ header_of b.now }
 {
-    let Word::Got(magic) = reader::read_be_u32(b, 0) else {
-        return HeaderRead::Refused(DeviceTreeError::UnexpectedEndOfInput);
-    };
+    let magic: u32 = read_be(b, 0)?;
     if magic != MAGIC_NUMBER {
-        return HeaderRead::Refused(DeviceTreeError::InvalidMagicNumber);
+        return Err(DeviceTreeError::InvalidMagicNumber);
     }
-    let Word::Got(size) = reader::read_be_u32(b, 4) else {
-        return HeaderRead::Refused(DeviceTreeError::UnexpectedEndOfInput);
-    };
+    let size: u32 = read_be(b, 4)?;
     if size as usize != b.len() {
-        return HeaderRead::Refused(DeviceTreeError::SizeMismatch);
+        return Err(DeviceTreeError::SizeMismatch);
     }
-    let Word::Got(version) = reader::read_be_u32(b, 20) else {
-        return HeaderRead::Refused(DeviceTreeError::UnexpectedEndOfInput);
-    };
+    let version: u32 = read_be(b, 20)?;
     if version != SUPPORTED_VERSION {
-        return HeaderRead::Refused(DeviceTreeError::VersionNotSupported);
+        return Err(DeviceTreeError::VersionNotSupported);
     }
-    let Word::Got(boot) = reader::read_be_u32(b, 28) else {
-        return HeaderRead::Refused(DeviceTreeError::UnexpectedEndOfInput);
-    };
-    HeaderRead::Good(Header {
-        structure: reader::word_at(b, 8) as usize,
-        strings: reader::word_at(b, 12) as usize,
-        reservations: reader::word_at(b, 16) as usize,
+    let structure: u32 = read_be(b, 8)?;
+    let strings: u32 = read_be(b, 12)?;
+    let reservations: u32 = read_be(b, 16)?;
+    let boot = read_be(b, 28)?;
+    Ok(Header {
+        structure: structure as usize,
+        strings: strings as usize,
+        reservations: reservations as usize,
         boot,
     })
 }

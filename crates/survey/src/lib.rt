@@ -2,7 +2,9 @@
 #![tactic(auto)]
 
 ghost use Rattle.std.specs.Prelude.{◌≡◌};
-ghost use Rattle.survey.specs.Outcomes.{survey_outcome};
+ghost use Rattle.format.specs.Results.{outcome};
+ghost use Rattle.survey.specs.declared.DeviceTreeError.TheVariants.{UnexpectedEndOfInput, Utf8Error};
+ghost use Rattle.survey.specs.Outcomes.{why_of};
 ghost use Rattle.survey.specs.Survey.{survey_of};
 
 mod header;
@@ -10,8 +12,9 @@ mod nodes;
 mod reserve;
 
 use format::DEPTH;
-use header::{HeaderRead, SUPPORTED_VERSION, judge_header};
-use nodes::{NodeRead, check_node};
+use header::{SUPPORTED_VERSION, judge_header};
+pub use nodes::Blob;
+use reader::SliceReadError;
 use reserve::scan;
 
 // ---- the structure block: how long a token is, where the parts of a node and of a property stand, counted from their token, and to what
@@ -38,7 +41,7 @@ pub const LENGTH_AT: usize = 8;
 // ---- answers
 
 // Why a load is refused: the Rust's reasons, and four of our own. A position, or the rows needed.
-#[derive(Clone, Copy)]
+#[derive(Clone, Copy, Debug, PartialEq, Eq)]
 pub enum DeviceTreeError {
     InvalidMagicNumber,
     SizeMismatch,
@@ -53,7 +56,7 @@ pub enum DeviceTreeError {
 }
 
 // What was loaded: the Rust's `DeviceTree`, with the count of rows where it has a list or a tree.
-#[derive(Clone, Copy)]
+#[derive(Clone, Copy, Debug, PartialEq, Eq)]
 pub struct DeviceTree {
     pub version: u32,
     pub boot_cpuid_phys: u32,
@@ -78,49 +81,44 @@ pub struct Plan {
     pub tree: DeviceTree,
 }
 
-#[derive(Clone, Copy)]
-pub enum Surveyed {
-    Good(Plan),
-    Refused(DeviceTreeError),
+impl From<SliceReadError> for DeviceTreeError {
+    ghost from_gives = { λ _ why. why ≡ UnexpectedEndOfInput };
+
+    fn from(_e: SliceReadError) -> DeviceTreeError {
+        DeviceTreeError::UnexpectedEndOfInput
+    }
 }
 
-// A position.
-#[derive(Clone, Copy)]
-enum Next {
-    At(usize),
-    Refused(DeviceTreeError),
+impl From<utf8::Utf8Error> for DeviceTreeError {
+    ghost from_gives = { λ _ why. why ≡ Utf8Error };
+
+    fn from(_e: utf8::Utf8Error) -> DeviceTreeError {
+        DeviceTreeError::Utf8Error
+    }
 }
 
 // Everything but the room: 0 to 7.
-pub fn survey(b: &[u8]) -> Surveyed
-    ensures { survey_outcome result ≡ survey_of b.now }
+pub fn survey(b: &[u8]) -> Result<Plan, DeviceTreeError>
+    ensures { outcome why_of result ≡ survey_of b.now }
 {
-    let header = match judge_header(b) {
-        HeaderRead::Good(header) => header,
-        HeaderRead::Refused(why) => return Surveyed::Refused(why),
-    };
-    let from = header.reservations;
-    let end = match scan(b, from) {
-        Next::At(end) => end,
-        Next::Refused(why) => return Surveyed::Refused(why),
-    };
+    let header = judge_header(b)?;
+    let reservations = header.reservations;
+    let end = scan(b, reservations)?;
     let strings = Block {
         start: header.strings,
         end: b.len(),
     };
-    match check_node(b, strings, DEPTH, header.structure) {
-        NodeRead::Refused(why) => Surveyed::Refused(why),
-        NodeRead::Good(root) => Surveyed::Good(Plan {
-            structure: header.structure,
-            strings,
-            reservations: from,
-            tree: DeviceTree {
-                version: SUPPORTED_VERSION,
-                boot_cpuid_phys: header.boot,
-                reserved: (end - from) / ENTRY,
-                nodes: root.nodes,
-                props: root.props,
-            },
-        }),
-    }
+    let root = Blob { bytes: b, strings }.check_node(DEPTH, header.structure)?;
+    Ok(Plan {
+        structure: header.structure,
+        strings,
+        reservations,
+        tree: DeviceTree {
+            version: SUPPORTED_VERSION,
+            boot_cpuid_phys: header.boot,
+            reserved: (end - reservations) / ENTRY,
+            nodes: root.nodes,
+            props: root.props,
+        },
+    })
 }

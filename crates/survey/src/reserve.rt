@@ -1,28 +1,24 @@
 // The reservation list: a scan that finds its end.
 ghost use Rattle.std.specs.Prelude.{◌≡◌};
-ghost use Rattle.survey.specs.Outcomes.{next_outcome};
+ghost use Rattle.format.specs.Results.{outcome};
+ghost use Rattle.survey.specs.Outcomes.{why_of};
 ghost use Rattle.survey.specs.Reserve.{scan_from, ScanReady};
 
-use crate::{DeviceTreeError, ENTRY, LENGTH_AT, Next};
-use reader::Long;
+use crate::{DeviceTreeError, ENTRY, LENGTH_AT};
+use reader::read_be;
 
 // "Stopping yields the position after" the entry that ends the list.
-pub(crate) fn scan(b: &[u8], pos: usize) -> Next
+pub(crate) fn scan(b: &[u8], pos: usize) -> Result<usize, DeviceTreeError>
     requires { ScanReady b.now pos }
-    ensures { next_outcome result ≡ scan_from b.now pos }
+    ensures { outcome why_of result ≡ scan_from b.now pos }
 {
     let mut p = pos;
-    let end = loop {
-        let Long::Got(_) = reader::read_be_u64(b, p) else {
-            return Next::Refused(DeviceTreeError::UnexpectedEndOfInput);
-        };
-        let Long::Got(size) = reader::read_be_u64(b, p + LENGTH_AT) else {
-            return Next::Refused(DeviceTreeError::UnexpectedEndOfInput);
-        };
+    loop {
+        let _: u64 = read_be(b, p)?;
+        let size: u64 = read_be(b, p + LENGTH_AT)?;
         p += ENTRY;
         if size == 0 {
-            break p;
+            return Ok(p);
         }
-    };
-    Next::At(end)
+    }
 }

@@ -1,4 +1,4 @@
 -- Outcomes for callers, Determined for readers; Expected is for the proofs here alone.
-pub mod Outcomes
 mod Expected
+pub mod Outcomes
 pub mod Determined

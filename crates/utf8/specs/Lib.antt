@@ -1,4 +1,3 @@
--- What the promise cites (Numbers), what callers turn it into (Outcomes), and what private contracts cite (Expected).
-pub mod Numbers
+-- What the promise cites (Outcomes), and what private contracts cite (Expected).
 pub mod Outcomes
 pub mod Expected

@@ -1,4 +1,3 @@
--- Outcomes and Determined are for callers; ValueLaws is what the proofs here cite.
-pub mod Outcomes
+-- Determined is for callers; ValueLaws is what the proofs here cite.
 pub mod Determined
 mod ValueLaws

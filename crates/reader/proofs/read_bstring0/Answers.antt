@@ -1,25 +1,22 @@
--- `read_bstring0` meets its promise. The invariant: the string at pos, with the bytes before cur passed, is still the answer.
--- Assumes nothing.
-use mathlib.Core.Path.{sym, ◌∙◌}
+-- `read_bstring0` meets its promise: the first zero byte from pos on ends the string. Assumes nothing.
+use mathlib.Core.Path.{sym}
+use mathlib.Core.Logic.{inl, inr}
 use native.Mathlib.Omega.{arith}
-use Rattle.reader.specs.Outcomes.{span_outcome}
-use Rattle.reader.proofs.Outcomes.{span_promise}
-use Rattle.reader.proofs.Strings.{passed_none, passed_zero, passed_one, passed_all}
+use Rattle.format.specs.Results.{outcome_of}
+use Rattle.reader.specs.Outcomes.{why_of, tells}
+use Rattle.reader.proofs.Strings.{nothing_past, string_found, string_none}
+use Rattle.reader.proofs.Parts.{rest_is}
 use Rattle.reader.proofs.read_bstring0.Goals as goal
 
-pub loop-cur-init : goal.loop-cur-init
-loop-cur-init c = (omega arith, passed_none _ _)
+pub returns-in_default : goal.returns-in_default
+unfolding outcome_of why_of
+returns-in_default c =
+    elim c.in_default.ensures.lookup.0 [ inl h ↦ sym (nothing_past _ _ (omega arith)) | inr h ↦ absurd (omega arith) ]
 
-pub returns-then-buf-cur-eq0 : goal.returns-then-buf-cur-eq0
-unfolding span_outcome
-returns-then-buf-cur-eq0 c =
-    span_promise _ (sym (c.loop-cur.invariant.1 ∙ passed_zero _ _ _ c.loop-cur-test.true c.if-buf-cur-eq0.true))
+pub returns-in-Some-first_zero : goal.returns-in-Some-first_zero
+unfolding outcome_of tells
+returns-in-Some-first_zero c = sym (string_found _ _ (rest_is c.args.buf.now c.args.pos c.in-Some.ensures.lookup.0.2) (sym c.in-Some-first_zero.ensures))
 
-pub loop-cur-preserved : goal.loop-cur-preserved
-loop-cur-preserved c =
-    let inv = c.loop-cur.invariant in
-    (omega arith, inv.1 ∙ passed_one _ _ _ c.loop-cur-test.true inv.0 c.if-buf-cur-eq0.false)
-
-pub returns : goal.returns
-unfolding span_outcome
-returns c = span_promise _ (sym (c.loop-cur.invariant.1 ∙ passed_all _ _ _ c.loop-cur-test.false))
+pub returns-in-None : goal.returns-in-None
+unfolding outcome_of why_of
+returns-in-None c = sym (string_none _ _ (rest_is c.args.buf.now c.args.pos c.in-Some.ensures.lookup.0.2) (sym c.in-None.ensures))

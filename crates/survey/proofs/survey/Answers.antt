@@ -2,39 +2,41 @@
 -- the survey's. The header says that the blob is small, which the passes ask for. Assumes nothing.
 use mathlib.Core.Path.{sym}
 use Rattle.format.specs.Format.{version}
+use Rattle.format.specs.Results.{outcome_of}
 use Rattle.format.specs.Rules.{ours}
-use Rattle.survey.specs.Outcomes.{next_outcome, node_outcome}
 use Rattle.survey.specs.Survey.{names_of}
-use Rattle.survey.specs.Outcomes.{header_outcome, survey_outcome}
+use Rattle.survey.proofs.Exits.{handed}
 use Rattle.survey.proofs.SurveyLaws.{scan_ready, names_small, no_header, no_list, no_root, end_after, whole}
 use Rattle.survey.proofs.survey.Goals as goal
 
-pub returns-in-Refused : goal.returns-in-Refused
-unfolding survey_outcome header_outcome
-returns-in-Refused c = sym (no_header _ (sym c.in-Refused.ensures))
+pub returns-in_err-header : goal.returns-in_err-header
+unfolding outcome_of
+returns-in_err-header c = handed _ _ c.from_residual.ensures.1 (no_header _ (sym c.in_err-header.ensures))
 
 pub scan-requires : goal.scan-requires
-unfolding header_outcome
-scan-requires c = scan_ready (λ i. (c.type_inv.b i).fits) (sym c.in-Good.ensures)
+unfolding outcome_of
+scan-requires c = scan_ready (λ i. (c.type_inv.b i).fits) (sym c.in_ok-header.ensures)
 
-pub returns-in-Refused-scan : goal.returns-in-Refused-scan
-unfolding survey_outcome next_outcome header_outcome
-returns-in-Refused-scan c = sym (no_list _ _ (sym c.in-Good.ensures) (sym c.in-Refused-scan.ensures))
+pub returns-in_err-end : goal.returns-in_err-end
+unfolding outcome_of
+returns-in_err-end c =
+    handed _ _ c.from_residual-in_err-end.ensures.1 (no_list _ _ (sym c.in_ok-header.ensures) (sym c.in_err-end.ensures))
 
-pub check_node-requires : goal.check_node-requires
-unfolding header_outcome
-check_node-requires c = names_small (λ i. (c.type_inv.b i).fits) (sym c.in-Good.ensures)
+pub invariant_of-check_node : goal.invariant_of-check_node
+unfolding outcome_of
+invariant_of-check_node c = record { are_bytes = λ i. (c.type_inv.b i).fits; small = names_small (λ i. (c.type_inv.b i).fits) (sym c.in_ok-header.ensures) }
+
+pub returns-in_err-root : goal.returns-in_err-root
+unfolding names_of ours outcome_of
+returns-in_err-root c =
+    handed _ _ c.from_residual-in_err-root.ensures.1
+    (no_root _ _ (sym c.in_ok-header.ensures) _ (sym c.in_ok-end.ensures) (sym c.in_err-root.ensures))
 
 pub overflow_sub-result : goal.overflow_sub-result
-unfolding header_outcome next_outcome
-overflow_sub-result c = end_after _ _ (sym c.in-Good.ensures) _ (sym c.in-At.ensures)
+unfolding outcome_of
+overflow_sub-result c = end_after _ _ (sym c.in_ok-header.ensures) _ (sym c.in_ok-end.ensures)
 
-pub returns-in-Refused-check_node : goal.returns-in-Refused-check_node
-unfolding survey_outcome node_outcome names_of ours header_outcome next_outcome
-returns-in-Refused-check_node c =
-    sym (no_root _ _ (sym c.in-Good.ensures) _ (sym c.in-At.ensures) (sym c.in-Refused-check_node.ensures))
-
-pub returns-in-Good-check_node : goal.returns-in-Good-check_node
-unfolding survey_outcome node_outcome names_of ours version header_outcome next_outcome
-returns-in-Good-check_node c =
-    sym (whole _ _ (sym c.in-Good.ensures) _ (sym c.in-At.ensures) _ (sym c.in-Good-check_node.ensures))
+pub returns : goal.returns
+unfolding names_of ours version outcome_of
+returns c =
+    sym (whole _ _ (sym c.in_ok-header.ensures) _ (sym c.in_ok-end.ensures) _ (sym c.in_ok-root.ensures))

@@ -1,32 +1,22 @@
--- `text_of` meets its contract, by its four returns. Assumes nothing.
-use native.Mathlib.Omega.{arith}
-use Prim.Native.Nat.{◌-◌}
-use lib.ListN.{length}
-use Rattle.utf8.proofs.Outcomes.{checked_good, checked_bad}
-use Rattle.values.specs.Answers.{text_outcome, why_of}
-use Rattle.values.proofs.ValueLaws.{text_empty, text_open, text_bad, text_good}
+-- `text_of` meets its contract, by its three returns. Assumes nothing.
+use Rattle.std.proofs.Common.{sym}
+use Rattle.format.specs.Results.{outcome_of}
+use Rattle.format.proofs.Results.{hands_on}
+use Rattle.utf8.specs.Outcomes as utf8
+use Rattle.values.specs.Answers.{why_of}
+use Rattle.values.proofs.ValueLaws.{text_open, text_bad, text_good}
 use Rattle.values.proofs.text_of.Goals as goal
 
-pub returns-then-len-eq0 : goal.returns-then-len-eq0
-unfolding text_outcome why_of
-returns-then-len-eq0 c = let a = c.args in text_empty a.value.now a.start c.if-len-eq0.true
+pub returns-in_default : goal.returns-in_default
+unfolding outcome_of why_of
+returns-in_default c = sym (text_open _ c.in_default.ensures.cases)
 
-pub returns-then-value-len-ne0 : goal.returns-then-value-len-ne0
-unfolding text_outcome why_of
-returns-then-value-len-ne0 c =
-    let a = c.args in
-    text_open a.value.now a.start (omega (arith, c.if-len-eq0.false)) c.if-value-len-ne0.true
+pub returns-in_err-from_utf8 : goal.returns-in_err-from_utf8
+unfolding outcome_of utf8.why_of
+returns-in_err-from_utf8 c =
+    let text = c.in-Some.ensures.cases in
+    hands_on why_of _ _ c.from_residual.ensures.1 (λ y q. q) (text_bad _ text.0 text.1 (sym c.in_err-from_utf8.ensures))
 
-pub returns-in-Utf8 : goal.returns-in-Utf8
-unfolding text_outcome
-returns-in-Utf8 c =
-    let a = c.args in
-    text_good a.value.now a.start (omega (arith, c.if-len-eq0.false)) c.if-value-len-ne0.false (length a.value.now - 1 - 0) (omega arith)
-    (checked_good _ c.in-Utf8.is c.from_utf8.ensures)
-
-pub returns-in-NotUtf8 : goal.returns-in-NotUtf8
-unfolding text_outcome why_of
-returns-in-NotUtf8 c =
-    let a = c.args in
-    text_bad a.value.now a.start (omega (arith, c.if-len-eq0.false)) c.if-value-len-ne0.false (length a.value.now - 1 - 0) (omega arith)
-    (checked_bad _ c.in-NotUtf8.is c.from_utf8.ensures)
+pub returns : goal.returns
+unfolding outcome_of
+returns c = let text = c.in-Some.ensures.cases in sym (text_good _ text.0 text.1 (sym c.in_ok-from_utf8.ensures))

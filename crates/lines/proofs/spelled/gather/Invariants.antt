@@ -1,14 +1,8 @@
 -- `lines::spelled::gather` meets its contract. The loop's invariant, `Gathered`: the words put so far are the first words.
 -- Assumes nothing.
-use Prim.Native.Nat.{◌≤◌, ◌-◌, ◌/◌}
-use mathlib.Core.Path.{◌≡◌}
 use lib.ListN.{length}
 use Rattle.lines.proofs.FieldLaws.{Gathered}
 use Rattle.lines.proofs.spelled.gather.Given as goal
 
 abbrev pub invariant-loop-i : goal.invariant-loop-i
-invariant-loop-i l =
-    (l.i ≤ l.count) × (l.count ≡ length l.s / 4) × Gathered (length l.initial.out) l.s l.out l.i
-
-abbrev pub decreases-loop-i : goal.decreases-loop-i
-decreases-loop-i l = l.count - l.i
+invariant-loop-i l = Gathered (length l.initial.out) l.s l.out l.i

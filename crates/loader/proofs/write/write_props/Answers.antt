@@ -1,36 +1,29 @@
 -- `write_props` meets its contract. The loop's invariant: what is left to write from p on leaves what writing from pos on leaves.
 -- Each turn goes further on. Assumes nothing.
-use mathlib.Core.Path.{sym, ◌∙◌}
-use native.Mathlib.Omega.{arith}
-use Rattle.format.specs.Format.{PROP}
+use mathlib.Core.Path.{refl, ◌∙◌}
 use Rattle.loader.specs.Pass.{props_state}
-use Rattle.loader.proofs.PropLaws.{props_start, props_ready, props_few, props_less, props_again, props_end}
+use Rattle.loader.proofs.PropLaws.{props_start, props_ready, props_less, props_again, props_end}
+use Rattle.loader.proofs.TokenLaws.{prop_word, prop_token}
 use Rattle.loader.proofs.write.write_props.Goals as goal
 
-pub loop-strings-init : goal.loop-strings-init
-loop-strings-init c = props_start c.requires
+pub loop-props-init : goal.loop-props-init
+loop-props-init c = (props_start c.requires, refl)
 
 pub write_prop-p-requires : goal.write_prop-p-requires
-unfolding PROP
 write_prop-p-requires c =
-    props_ready c.loop-strings.invariant (sym c.word_at.ensures ∙ c.loop-strings-test.true)
+    props_ready c.loop-props.invariant.0 (prop_word c.at.ensures c.in-Prop.is)
 
-pub overflow_add-r : goal.overflow_add-r
-unfolding PROP
-overflow_add-r c =
-    record { fits = omega (arith, props_few c.loop-strings.invariant (sym c.word_at.ensures ∙ c.loop-strings-test.true)) }
+pub loop-props-smaller : goal.loop-props-smaller
+loop-props-smaller c =
+    props_less c.loop-props.invariant.0 (prop_word c.at.ensures c.in-Prop.is) c.write_prop-p.ensures.next
 
-pub loop-strings-smaller : goal.loop-strings-smaller
-unfolding PROP
-loop-strings-smaller c =
-    props_less c.loop-strings.invariant (sym c.word_at.ensures ∙ c.loop-strings-test.true) c.write_prop-p.ensures.next
+pub loop-props-preserved : goal.loop-props-preserved
+loop-props-preserved c = (
+  props_again c.loop-props.invariant.0 (prop_word c.at.ensures c.in-Prop.is) c.write_prop-p.ensures.next c.write_prop-p.ensures.row c.write_prop-p.ensures.stored,
+  c.write_prop-p.ensures.lent ∙ c.loop-props.invariant.1,
+)
 
-pub loop-strings-preserved : goal.loop-strings-preserved
-unfolding PROP
-loop-strings-preserved c =
-    props_again c.loop-strings.invariant (sym c.word_at.ensures ∙ c.loop-strings-test.true) c.write_prop-p.ensures.next c.write_prop-p.ensures.stored
-
-pub returns : goal.returns
-unfolding props_state PROP
-returns c =
-    props_end c.loop-strings.invariant (λ e. c.loop-strings-test.false (c.word_at.ensures ∙ e))
+pub returns-clause-stored : goal.returns-clause-stored
+unfolding props_state
+returns-clause-stored c =
+    props_end c.loop-props.invariant.0 (λ e. c.in_default.not-Prop (prop_token c.at.ensures e))

@@ -1,13 +1,15 @@
 -- `write_props` meets its contract. The loop's invariant: what is left to write from p on leaves what writing from pos on leaves.
 -- Each turn goes further on. Assumes nothing.
+use mathlib.Core.Path.{◌≡◌}
 use Prim.Native.Nat.{◌+◌, ◌-◌}
 use lib.ListN.{length}
 use Rattle.survey.specs.Nodes.{block}
 use Rattle.loader.proofs.PropLaws.{PropsInv}
 use Rattle.loader.proofs.write.write_props.Given as goal
 
-abbrev pub invariant-loop-strings : goal.invariant-loop-strings
-invariant-loop-strings l = PropsInv l.b (block l.strings) l.pos l.row l.initial.props l.p l.r l.props
+abbrev pub invariant-loop-props : goal.invariant-loop-props
+invariant-loop-props l = PropsInv l.blob.bytes.now (block l.blob.strings) l.pos l.initial.props.row l.initial.props.numbers.now l.p l.props.row l.props.numbers.now
+    × (l.props.numbers.ghost_name ≡ l.initial.props.numbers.ghost_name)
 
-abbrev pub decreases-loop-strings : goal.decreases-loop-strings
-decreases-loop-strings l = length l.b + 4 - l.p
+abbrev pub decreases-loop-props : goal.decreases-loop-props
+decreases-loop-props l = length l.blob.bytes.now + 4 - l.p

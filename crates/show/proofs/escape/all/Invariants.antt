@@ -1,10 +1,12 @@
--- `show::escape::all` is safe and ends: each turn takes a byte of s. Assumes nothing.
-use Prim.Native.Nat.{◌≤◌, ◌-◌}
-use lib.ListN.{length}
+-- The loop of `show::escape::all`: what is written so far is what the bytes so far come to, whatever that is said to be.
+use Rattle.std.proofs.Common.{◌≡◌, ◌<◌, ℕ, List, flat_map, take}
+use Rattle.std.specs.Fmt.{HasWritten, IsPlainFormatter}
+use Rattle.show.specs.Told.{told}
+use Rattle.show.specs.declared.escape.Shown.{Shown}
 use Rattle.show.proofs.escape.all.Given as goal
 
-abbrev pub invariant-loop-i : goal.invariant-loop-i
-invariant-loop-i l = l.i ≤ length l.s
-
-abbrev pub decreases-loop-i : goal.decreases-loop-i
-decreases-loop-i l = length l.s - l.i
+abbrev pub invariant-loop-b : goal.invariant-loop-b
+invariant-loop-b g l =
+    goal.F-IsAlwaysCallable g l.how
+    × ((shown : ℕ → List ℕ) → ((b : ℕ) (r : Shown) → b < 256 → goal.F-post g l.how b r → told r ≡ shown b)
+    → IsPlainFormatter l.initial.f → HasWritten g.W.Write.write_str_gives l.initial.f (flat_map shown (take l.b-index l.s)) l.f)

@@ -2,52 +2,73 @@
 -- Assumes nothing.
 use mathlib.Core.Path.{sym}
 use Rattle.format.specs.Format.{magic, version}
+use Rattle.format.specs.Results.{outcome_of}
+use Rattle.reader.proofs.Outcomes.{got_number, none}
 use Rattle.survey.specs.Outcomes.{why_of}
-use Rattle.survey.specs.Outcomes.{header_outcome}
-use Rattle.reader.proofs.Outcomes.{word_got, word_short}
-use Rattle.survey.proofs.HeaderLaws.{magic_passed, size_passed, version_passed, no_magic, bad_magic, no_size, bad_size, no_version, bad_version, no_boot, whole}
+use Rattle.survey.proofs.Exits.{short}
+use Rattle.survey.proofs.HeaderLaws.{magic_passed, size_passed, version_passed, no_magic, bad_magic, no_size, bad_size, no_version, bad_version, no_structure, no_strings, no_reservations, no_boot, whole}
 use Rattle.survey.proofs.header.judge_header.Goals as goal
 
-pub returns-in_default : goal.returns-in_default
-unfolding header_outcome why_of
-returns-in_default c = sym (no_magic _ (word_short _ c.in_default.is c.read_be_u32.ensures))
+pub returns-in_err-magic : goal.returns-in_err-magic
+returns-in_err-magic c = short _ c.from_residual.ensures.1 (no_magic _ (none _ _ c.in_err-magic.ensures))
 
 pub returns-then-magic : goal.returns-then-magic
-unfolding header_outcome why_of magic
-returns-then-magic c = sym (bad_magic _ (word_got _ c.in-Got.is c.read_be_u32.ensures) c.if-magic.true)
+unfolding outcome_of why_of magic
+returns-then-magic c = sym (bad_magic _ (got_number c.in_ok-magic.ensures) c.if-magic.true)
 
-pub returns-in_default-read_be_u32 : goal.returns-in_default-read_be_u32
-unfolding header_outcome why_of magic
-returns-in_default-read_be_u32 c =
-    sym (no_size _ (magic_passed c.in-Got.ensures c.if-magic.false) (word_short _ c.in_default-read_be_u32.is c.read_be_u32-2.ensures))
+pub returns-in_err-size : goal.returns-in_err-size
+unfolding magic
+returns-in_err-size c =
+    short _ c.from_residual-in_err-size.ensures.1 (no_size _ (magic_passed (got_number c.in_ok-magic.ensures) c.if-magic.false) (none _ _ c.in_err-size.ensures))
 
 pub returns-then-size-b : goal.returns-then-size-b
-unfolding header_outcome why_of magic
+unfolding outcome_of why_of magic
 returns-then-size-b c =
-    sym (bad_size _ (magic_passed c.in-Got.ensures c.if-magic.false) (word_got _ c.in-Got-read_be_u32.is c.read_be_u32-2.ensures) c.if-size-b.true)
+    sym (bad_size _ (magic_passed (got_number c.in_ok-magic.ensures) c.if-magic.false) (got_number c.in_ok-size.ensures) c.if-size-b.true)
 
-pub returns-in_default-read_be_u32-2 : goal.returns-in_default-read_be_u32-2
-unfolding header_outcome why_of magic
-returns-in_default-read_be_u32-2 c =
-    sym (no_version _ (size_passed c.in-Got.ensures c.if-magic.false c.in-Got-read_be_u32.ensures c.if-size-b.false)
-    (word_short _ c.in_default-read_be_u32-2.is c.read_be_u32-3.ensures))
+pub returns-in_err-version : goal.returns-in_err-version
+unfolding magic
+returns-in_err-version c =
+    short _ c.from_residual-in_err-version.ensures.1
+    (no_version _ (size_passed (got_number c.in_ok-magic.ensures) c.if-magic.false (got_number c.in_ok-size.ensures) c.if-size-b.false)
+    (none _ _ c.in_err-version.ensures))
 
 pub returns-then-version-ne-SUPPORTED_VERSION : goal.returns-then-version-ne-SUPPORTED_VERSION
-unfolding header_outcome why_of version magic
+unfolding outcome_of why_of magic version
 returns-then-version-ne-SUPPORTED_VERSION c =
-    sym (bad_version _ (size_passed c.in-Got.ensures c.if-magic.false c.in-Got-read_be_u32.ensures c.if-size-b.false)
-    (word_got _ c.in-Got-read_be_u32-2.is c.read_be_u32-3.ensures) c.if-version-ne-SUPPORTED_VERSION.true)
+    sym (bad_version _ (size_passed (got_number c.in_ok-magic.ensures) c.if-magic.false (got_number c.in_ok-size.ensures) c.if-size-b.false)
+    (got_number c.in_ok-version.ensures) c.if-version-ne-SUPPORTED_VERSION.true)
 
-pub returns-in_default-read_be_u32-3 : goal.returns-in_default-read_be_u32-3
-unfolding header_outcome why_of magic version
-returns-in_default-read_be_u32-3 c =
-    sym (no_boot _
-    (version_passed c.in-Got.ensures c.if-magic.false c.in-Got-read_be_u32.ensures c.if-size-b.false c.in-Got-read_be_u32-2.ensures c.if-version-ne-SUPPORTED_VERSION.false)
-    (word_short _ c.in_default-read_be_u32-3.is c.read_be_u32-4.ensures))
+pub returns-in_err-structure : goal.returns-in_err-structure
+unfolding magic version
+returns-in_err-structure c =
+    short _ c.from_residual-in_err-structure.ensures.1
+    (no_structure _ (version_passed (got_number c.in_ok-magic.ensures) c.if-magic.false (got_number c.in_ok-size.ensures) c.if-size-b.false (got_number c.in_ok-version.ensures) c.if-version-ne-SUPPORTED_VERSION.false)
+    (none _ _ c.in_err-structure.ensures))
+
+pub returns-in_err-strings : goal.returns-in_err-strings
+unfolding magic version
+returns-in_err-strings c =
+    short _ c.from_residual-in_err-strings.ensures.1
+    (no_strings _ (version_passed (got_number c.in_ok-magic.ensures) c.if-magic.false (got_number c.in_ok-size.ensures) c.if-size-b.false (got_number c.in_ok-version.ensures) c.if-version-ne-SUPPORTED_VERSION.false)
+    (got_number c.in_ok-structure.ensures) (none _ _ c.in_err-strings.ensures))
+
+pub returns-in_err-reservations : goal.returns-in_err-reservations
+unfolding magic version
+returns-in_err-reservations c =
+    short _ c.from_residual-in_err-reservations.ensures.1
+    (no_reservations _ (version_passed (got_number c.in_ok-magic.ensures) c.if-magic.false (got_number c.in_ok-size.ensures) c.if-size-b.false (got_number c.in_ok-version.ensures) c.if-version-ne-SUPPORTED_VERSION.false)
+    (got_number c.in_ok-structure.ensures) (got_number c.in_ok-strings.ensures) (none _ _ c.in_err-reservations.ensures))
+
+pub returns-in_err-boot : goal.returns-in_err-boot
+unfolding magic version
+returns-in_err-boot c =
+    short _ c.from_residual-in_err-boot.ensures.1
+    (no_boot _ (version_passed (got_number c.in_ok-magic.ensures) c.if-magic.false (got_number c.in_ok-size.ensures) c.if-size-b.false (got_number c.in_ok-version.ensures) c.if-version-ne-SUPPORTED_VERSION.false)
+    (got_number c.in_ok-structure.ensures) (got_number c.in_ok-strings.ensures) (got_number c.in_ok-reservations.ensures) (none _ _ c.in_err-boot.ensures))
 
 pub returns : goal.returns
-unfolding header_outcome magic version
+unfolding outcome_of magic version
 returns c =
-    sym (whole _
-    (version_passed c.in-Got.ensures c.if-magic.false c.in-Got-read_be_u32.ensures c.if-size-b.false c.in-Got-read_be_u32-2.ensures c.if-version-ne-SUPPORTED_VERSION.false)
-    c.word_at.ensures c.word_at-2.ensures c.word_at-3.ensures (word_got _ c.in-Got-read_be_u32-3.is c.read_be_u32-4.ensures))
+    sym (whole _ (version_passed (got_number c.in_ok-magic.ensures) c.if-magic.false (got_number c.in_ok-size.ensures) c.if-size-b.false (got_number c.in_ok-version.ensures) c.if-version-ne-SUPPORTED_VERSION.false)
+    (got_number c.in_ok-structure.ensures) (got_number c.in_ok-strings.ensures) (got_number c.in_ok-reservations.ensures) (got_number c.in_ok-boot.ensures))

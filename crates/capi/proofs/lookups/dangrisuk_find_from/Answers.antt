@@ -1,7 +1,0 @@
--- `dangrisuk_find_from` meets its contract: the numbers of the call behind it. Assumes nothing.
-use mathlib.Core.Path.{◌∙◌}
-use Rattle.capi.proofs.Told.{told}
-use Rattle.capi.proofs.lookups.dangrisuk_find_from.Goals as goal
-
-pub returns : goal.returns
-returns c = told _ _ _ c.put.ensures (c.of_found-told.ensures ∙ c.find_from-r.ensures)

@@ -1,7 +1,0 @@
--- `dangrisuk_align` meets its contract: the numbers of the call behind it. Assumes nothing.
-use mathlib.Core.Path.{◌∙◌}
-use Rattle.capi.proofs.Told.{told}
-use Rattle.capi.proofs.readers.dangrisuk_align.Goals as goal
-
-pub returns : goal.returns
-returns c = told _ _ _ c.put.ensures (c.of_place-told.ensures ∙ c.align-r.ensures)

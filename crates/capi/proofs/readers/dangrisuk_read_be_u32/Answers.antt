@@ -1,7 +1,0 @@
--- `dangrisuk_read_be_u32` meets its contract: the numbers of the call behind it. Assumes nothing.
-use mathlib.Core.Path.{◌∙◌}
-use Rattle.capi.proofs.Told.{told}
-use Rattle.capi.proofs.readers.dangrisuk_read_be_u32.Goals as goal
-
-pub returns : goal.returns
-returns c = told _ _ _ c.put.ensures (c.of_word-told.ensures ∙ c.read_be_u32-r.ensures)

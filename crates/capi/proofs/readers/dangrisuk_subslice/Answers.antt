@@ -1,7 +1,0 @@
--- `dangrisuk_subslice` meets its contract: the numbers of the call behind it. Assumes nothing.
-use mathlib.Core.Path.{◌∙◌}
-use Rattle.capi.proofs.Told.{told}
-use Rattle.capi.proofs.readers.dangrisuk_subslice.Goals as goal
-
-pub returns : goal.returns
-returns c = told _ _ _ c.put.ensures (c.of_span-told.ensures ∙ c.subslice-r.ensures)

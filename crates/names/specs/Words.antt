@@ -1,0 +1,6 @@
+-- Names a word at a time: for private contracts. No public promise cites it.
+use Rattle.std.specs.Prelude.{ℕ, ◌+◌, ◌*◌, List, get_or}
+
+-- the four bytes of s at p as a number, the first of them the lowest
+unfoldable pub lowest : List ℕ → ℕ → ℕ
+lowest s p = ((get_or s (p + 3) 0 * 256 + get_or s (p + 2) 0) * 256 + get_or s (p + 1) 0) * 256 + get_or s p 0

@@ -1,2 +1,0 @@
--- Laws of an answer's numbers, one by one.
-mod Padded

@@ -1,0 +1,3 @@
+-- What the contracts of `show` cite.
+pub mod Escaped
+pub mod Told
