@@ -60,7 +60,7 @@ impl<'b> Rows<'b, '_> {
         Ok(())
     }
 
-    // The value itself, empty on a refusal.
+    // The value itself, empty on a refusal. A function for this and for `prop_str_part` would be no shorter.
     pub fn prop_raw_part(&self, row: usize, name: &[u8]) -> &'b [u8]
         ensures { result.now ≡ or_empty (bytes_in self.now.nodes.blob.now (prop_raw self.now.nodes.blob.now (lent_by self.now) row name.now)) }
     {

@@ -17,7 +17,7 @@ const NODES: usize = lines::NODE_ROWS * format::NODE_WIDTH;
 
 const PROPERTIES: usize = lines::PROPERTY_ROWS * format::PROPERTY_WIDTH;
 
-// The line's answer, by its letter.
+// The line's answer, by its letter: told in this one match, which a table of calls would not make plainer.
 fn answer(line: &[u8], out: &mut impl Write) -> Result<()> {
     let rest = lines::rest(line);
     match lines::letter(line) {

@@ -16,7 +16,7 @@ use Rattle.reader.specs.declared.SliceReadError.{SliceReadError}
 use Rattle.reader.specs.declared.SliceReadError.TheVariants.{UnexpectedEndOfInput}
 use Rattle.reader.specs.declared.Span.{Span}
 use Rattle.reader.specs.declared.Token.{Token}
-use Rattle.reader.specs.Outcomes.{why_of, tells, token_of, token_at}
+use Rattle.reader.specs.Outcomes.{why_of, tells, number_of, token_of, token_at}
 
 -- ---- an outcome determines the answer that stands for it
 
@@ -72,8 +72,14 @@ module _ (buf : List ℕ) (pos : ℕ) where
   pub bstring0_part_determined : (r s : List ℕ) → r ≡ or_empty (read_bstring0 buf pos) → s ≡ or_empty (read_bstring0 buf pos) → r ≡ s
   bstring0_part_determined r s h k = h ∙ sym k
 
+  -- over the outcome: `Other 1` has the number of `BeginNode`, so numbers do not tell the two apart
   pub token_read_determined : (r s : Result Token SliceReadError) → outcome why_of r ≡ token_at buf pos → outcome why_of s ≡ token_at buf pos → r ≡ s
   token_read_determined r s h k = by_outcome (λ t. t) (λ v w e. e) r s (h ∙ sym k)
+
+  -- by numbers alone: the number of the token, or the refusal
+  pub token_number_determined : (r s : Result Token SliceReadError) → numbers itself (outcome_of why_of number_of r) ≡ numbers itself (read_be_u32 buf pos)
+      → numbers itself (outcome_of why_of number_of s) ≡ numbers itself (read_be_u32 buf pos) → outcome_of why_of number_of r ≡ outcome_of why_of number_of s
+  token_number_determined r s h k = itself_same _ _ (h ∙ sym k)
 
   pub word_at_determined : (r s : ℕ) → r ≡ or_zero (read_be_u32 buf pos) → s ≡ or_zero (read_be_u32 buf pos) → r ≡ s
   word_at_determined r s h k = h ∙ sym k

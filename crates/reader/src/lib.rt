@@ -55,7 +55,7 @@ pub fn read_bstring0(buf: &[u8], pos: usize) -> SliceReadResult<Span>
     }
 }
 
-// The part from start up to, not with, end. Refused unless start ≤ end < length.
+// The part from start up to, not with, end. Refused unless start ≤ end < length. The parameters are the Rust's own.
 pub fn subslice(buf: &[u8], start: usize, end: usize) -> SliceReadResult<Span>
     ensures { outcome_of why_of tells result ≡ span_at start (subslice buf.now start end) }
 {

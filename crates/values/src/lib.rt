@@ -17,6 +17,8 @@ pub use error::{PropError, PropResult};
 use lookup::Rows;
 use reader::{BigEndian, Span, read_be};
 
+// A row and a name are what is asked of rows. They are together in these calls alone, and a struct of them would be made for each.
+
 // The value's first bytes as a number, as many as the number's type has.
 pub fn prop_number<T: BigEndian>(rows: &Rows<'_, '_>, row: usize, name: &[u8]) -> PropResult<T>
     ensures { outcome_of why_of T.value result ≡ prop_number T.bytes rows.now.nodes.blob.now (lent_by rows.now) row name.now }
