@@ -4,12 +4,20 @@
 
 mod reply;
 
+use lines::Program;
+use std::io::{Result, Write};
 use text::Output;
+
+struct Frames;
+
+impl Program for Frames {
+    fn answer<W: Write>(&self, line: &[u8], out: &mut Output<W>) -> Result<()> {
+        replies::put(out, reply::reply(line))
+    }
+}
 
 // After a write that failed nobody is told: the program ends.
 fn main(rt: HostRuntime) {
     let mut out = Output::new(rt.stdout());
-    let _ = lines::answer_all(rt.stdin(), &mut out, |line, out| {
-        replies::put(out, reply::reply(line))
-    });
+    let _ = lines::answer_all(&Frames, rt.stdin(), &mut out);
 }

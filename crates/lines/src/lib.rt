@@ -7,7 +7,7 @@ mod reading;
 mod spelled;
 
 pub use fields::{after_two, first, letter, rest};
-pub use reading::answer_all;
+pub use reading::{Program, answer_all};
 pub use spelled::{bytes, decimal, hex, words};
 
 // The most bytes that a byte string may have, a frame and a blob among them; and a path or a name.

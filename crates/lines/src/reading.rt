@@ -116,14 +116,19 @@ impl<R: Read> Input<R> {
     }
 }
 
+// A program that answers lines. A trait and no closure: a closure would have to be callable, and so something be asked of the caller.
+pub trait Program {
+    // Writes the answer of a line.
+    fn answer<W: Write>(&self, line: &[u8], out: &mut Output<W>) -> Result<()>;
+}
+
 // Answers each line by one line. Whenever all that was read is taken, the answers go out.
 // A last line without its line end counts if it isn't empty.
-pub fn answer_all<R: Read + Drop, W: Write, F: FnMut(&[u8], &mut Output<W>) -> Result<()>>(
+pub fn answer_all<P: Program, R: Read + Drop, W: Write>(
+    program: &P,
     from: R,
     out: &mut Output<W>,
-    mut answer: F,
 ) -> Result<()>
-    requires { F.IsAlwaysCallable answer }
     ensures { OnOk result (waiting out.new ≡ []) }
 {
     let mut input = Input::new(from);
@@ -137,13 +142,13 @@ pub fn answer_all<R: Read + Drop, W: Write, F: FnMut(&[u8], &mut Output<W>) -> R
             }
         }
         if input.take(&mut line) {
-            answer(line.as_slice(), out)?;
+            program.answer(line.as_slice(), out)?;
             out.write_all(b"\n")?;
             line.clear();
         }
     }
     if !line.as_slice().is_empty() {
-        answer(line.as_slice(), out)?;
+        program.answer(line.as_slice(), out)?;
         out.write_all(b"\n")?;
     }
     out.flush()

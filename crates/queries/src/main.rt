@@ -7,6 +7,7 @@ mod loads;
 mod lookups;
 mod tables;
 
+use lines::Program;
 use std::io::{Result, Write};
 use text::Output;
 
@@ -17,18 +18,22 @@ const NODES: usize = lines::NODE_ROWS * format::NODE_WIDTH;
 
 const PROPERTIES: usize = lines::PROPERTY_ROWS * format::PROPERTY_WIDTH;
 
-// The line's answer, by its letter: told in this one match, which a table of calls would not make plainer.
-fn answer(line: &[u8], out: &mut impl Write) -> Result<()> {
-    let rest = lines::rest(line);
-    match lines::letter(line) {
-        b'T' => loads::answer(rest, out),
-        b'R' => given::answer(rest, out),
-        _ => replies::put(out, letters::reply(line)),
+struct Queries;
+
+impl Program for Queries {
+    // By the line's letter: told in this one match, which a table of calls would not make plainer.
+    fn answer<W: Write>(&self, line: &[u8], out: &mut Output<W>) -> Result<()> {
+        let rest = lines::rest(line);
+        match lines::letter(line) {
+            b'T' => loads::answer(rest, out),
+            b'R' => given::answer(rest, out),
+            _ => replies::put(out, letters::reply(line)),
+        }
     }
 }
 
 // After a write that failed nobody is told: the program ends.
 fn main(rt: HostRuntime) {
     let mut out = Output::new(rt.stdout());
-    let _ = lines::answer_all(rt.stdin(), &mut out, |line, out| answer(line, out));
+    let _ = lines::answer_all(&Queries, rt.stdin(), &mut out);
 }
