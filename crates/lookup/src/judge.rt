@@ -53,9 +53,9 @@ impl Judged<'_, '_> {
     // it at every row; the others' follow each other. As an array of its own a row's place is a product by 28: measured, 2,000 siblings
     // took an eighth longer.
     #[tactic(auto, unfolding(format::specs::Format::node_width))]
-    pub(crate) fn node_at(&self, row: usize) -> NodeCells
-        requires { row < self.now.nodes.count }
-        ensures { IsNode result (at (rows_of self.now.nodes) row) }
+    pub(crate) fn node_at(self, row: usize) -> NodeCells
+        requires { row < self.nodes.count }
+        ensures { IsNode result (at (rows_of self.entry.nodes) row) }
     {
         let link = &self.nodes.table[2 * row..];
         let part = &self.nodes.table[BUT_ONE * row..];
@@ -71,35 +71,35 @@ impl Judged<'_, '_> {
 
     // Whether a link of the row is none, or a later row below the count.
     #[tactic(auto, unfolding(format::specs::Lookup::link_good, format::specs::Format::NONE))]
-    fn link_is_good(&self, row: usize, link: u32) -> bool
-        ensures { result ≡ link_good (rows_of self.now.nodes) row link }
+    fn link_is_good(self, row: usize, link: u32) -> bool
+        ensures { result ≡ link_good (rows_of self.entry.nodes) row link }
     {
         link == NONE || (row < link as usize && (link as usize) < self.nodes.count)
     }
 
     // The same of a row that a link led to. One more than none is 0, so both tests go the same way for every good link, and the
     // processor need not guess whether there is one.
-    fn leads_on(&self, row: u32, link: u32) -> bool
+    fn leads_on(self, row: u32, link: u32) -> bool
         requires { row ≢ none }
-        ensures { result ≡ link_good (rows_of self.now.nodes) row link }
+        ensures { result ≡ link_good (rows_of self.entry.nodes) row link }
     {
         row < link && link.wrapping_add(1) as usize <= self.nodes.count
     }
 
     // Whether both links of the row are good.
     #[tactic(auto, unfolding(format::specs::Lookup::links_good))]
-    pub(crate) fn links_are_good(&self, row: usize, node: NodeCells) -> bool
-        requires { IsNode node (at (rows_of self.now.nodes) row) }
-        ensures { result ≡ links_good (rows_of self.now.nodes) row }
+    pub(crate) fn links_are_good(self, row: usize, node: NodeCells) -> bool
+        requires { IsNode node (at (rows_of self.nodes) row) }
+        ensures { result ≡ links_good (rows_of self.entry.nodes) row }
     {
         self.link_is_good(row, node.child) && self.link_is_good(row, node.next)
     }
 
     // Whether both links are good and the name lies in the blob. The next row's number is read first: what follows waits for it.
-    pub(crate) fn row_is_good(&self, row: u32, node: NodeCells) -> bool
+    pub(crate) fn row_is_good(self, row: u32, node: NodeCells) -> bool
         requires some { row ≢ none }
-        requires read { IsNode node (at (rows_of self.now.nodes) row) }
-        ensures { result ≡ (links_good (rows_of self.now.nodes) row && name_inside self.now.nodes.blob.now (rows_of self.now.nodes) row) }
+        requires read { IsNode node (at (rows_of self.nodes) row) }
+        ensures { result ≡ (links_good (rows_of self.entry.nodes) row && name_inside self.entry.nodes.blob.now (rows_of self.entry.nodes) row) }
     {
         self.leads_on(row, node.next)
             && self.leads_on(row, node.child)

@@ -21,10 +21,10 @@ struct Child {
 
 impl Judged<'_, '_> {
     // The first of the children, whose first is `first`, of that name.
-    fn child_named(&self, first: u32, name: &[u8]) -> LookupResult<Child>
-        requires { JudgedLink (rows_of self.now.nodes) first }
-        ensures row { outcome_of why_of (λ c. c.row) result ≡ child_from self.now.nodes.blob.now (rows_of self.now.nodes) self.now.nodes.count first name.now }
-        ensures below { IfOk result (λ c. c.below ≡ (at (rows_of self.now.nodes) c.row).first_child) }
+    fn child_named(self, first: u32, name: &[u8]) -> LookupResult<Child>
+        requires { JudgedLink (rows_of self.nodes) first }
+        ensures row { outcome_of why_of (λ c. c.row) result ≡ child_from self.entry.nodes.blob.now (rows_of self.entry.nodes) self.entry.nodes.count first name.now }
+        ensures below { IfOk result (λ c. c.below ≡ (at (rows_of self.entry.nodes) c.row).first_child) }
     {
         let mut link = first;
         while link != NONE {
@@ -45,9 +45,9 @@ impl Judged<'_, '_> {
     }
 
     // The path from a row.
-    fn walk(&self, from: usize, path: &[u8]) -> LookupResult<usize>
-        requires { from < self.now.nodes.count }
-        ensures { outcome why_of result ≡ reach self.now.nodes.blob.now (rows_of self.now.nodes) from path.now }
+    fn walk(self, from: usize, path: &[u8]) -> LookupResult<usize>
+        requires { from < self.nodes.count }
+        ensures { outcome why_of result ≡ reach self.entry.nodes.blob.now (rows_of self.entry.nodes) from path.now }
     {
         let own = self.node_at(from);
         if !self.links_are_good(from, own) {

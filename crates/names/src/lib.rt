@@ -1,9 +1,9 @@
 // Names: whether two are the same, and where the first name of a path ends.
 #![tactic(auto)]
 
-ghost use Rattle.std.specs.Prelude.{◌≡◌, ◌+◌, ◌≤◌, length};
+ghost use Rattle.std.specs.Prelude.{◌≡◌, ℕ, false, ◌+◌, ◌≤◌, ◌<◌, ◌≢◌, length, slice_index};
 ghost use Rattle.format.specs.Find.{head, same};
-ghost use Rattle.names.specs.Words.{lowest};
+ghost use Rattle.names.specs.Words.{lowest, Scan};
 
 // How many bytes are compared at once.
 const WORD: usize = 4;
@@ -47,9 +47,38 @@ pub fn same(s: &[u8], t: &[u8]) -> bool
     same_bytes(s, t)
 }
 
-// The end of the path's first name: the first slash, or the path's end.
-pub fn name_end(path: &[u8]) -> usize
+// Whether one of a word's bytes is a slash. All are compared, whatever the first ones are: so it is one comparison for the machine.
+fn has_slash(word: [u8; WORD]) -> bool
+    ensures { result ≡ false → (i : ℕ) → i < 4 → slice_index word i ≢ 0x2f }
+{
+    let [a, b, c, d] = word;
+    (a == b'/') | (b == b'/') | (c == b'/') | (d == b'/')
+}
+
+// How far the path has words without a slash.
+fn plain_words(path: &[u8]) -> usize
+    ensures { Scan path.now result }
+{
+    let (words, _) = path.as_chunks::<WORD>();
+    for (i, word) in words.iter().enumerate() {
+        if has_slash(*word) {
+            return i * WORD;
+        }
+    }
+    words.len() * WORD
+}
+
+// The end of the path's first name, a byte at a time.
+fn byte_end(path: &[u8]) -> usize
     ensures { result ≡ length (head path.now) }
 {
     path.iter().position(|b| *b == b'/').unwrap_or(path.len())
+}
+
+// The end of the path's first name: the first slash, or the path's end. By words first, for a byte at a time a long name takes twice as long.
+pub fn name_end(path: &[u8]) -> usize
+    ensures { result ≡ length (head path.now) }
+{
+    let plain = plain_words(path);
+    plain + byte_end(&path[plain..])
 }

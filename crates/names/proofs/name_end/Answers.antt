@@ -1,16 +1,12 @@
--- `name_end` meets its contract: `position` finds the first slash, where the first name ends. Assumes nothing.
-use Rattle.std.proofs.Common.{rules, tests}
-use mathlib.Core.Path.{ap, ◌∙◌}
-use lib.Dec.{eqb}
-use Rattle.std.specs.Prelude.{length}
-use Rattle.std.specs.Option.{unwrap_or}
-use Rattle.std.proofs.lemmas.Iterator.{YieldsList-from_slice}
-use Rattle.std.proofs.lemmas.Iterator.Search.{position_from_yields_List}
-use Rattle.names.proofs.NameLaws.{slash_or_end}
+-- `name_end` meets its contract: no slash stands in the words that were passed (`Scan`), and what is left is told by its bytes.
+-- Assumes nothing.
+use native.Mathlib.Omega.{arith}
+use borrow.Rule.Slice.PartAt.{part_to_end}
+use Rattle.names.proofs.NameLaws.{head_inside}
 use Rattle.names.proofs.name_end.Goals as goal
 
 pub returns : goal.returns
-returns c =
-    let path = c.args.path.now in
-    let found = position_from_yields_List (λ b. eqb b 0x2f) _ _ c.position.result c.position.ensures.ran (YieldsList-from_slice path cc) (λ x b q k. search (rules, tests)) in
-    c.unwrap_or.ensures ∙ ap (λ r. unwrap_or r (length path)) found ∙ slash_or_end path
+returns c = omega (arith, rw part_to_end at c.byte_end.ensures, c.plain_words-plain.ensures.first)
+
+pub overflow_add-result : goal.overflow_add-result
+overflow_add-result c = omega (arith, rw part_to_end at c.byte_end.ensures, head_inside c.args.path.now, c.plain_words-plain.ensures.first)

@@ -6,4 +6,4 @@ use Rattle.lookup.proofs.judge.Judged.node_at.Goals as goal
 
 pub returns : goal.returns
 unfolding node_width part
-returns c = let judged = c.args.self.now in cells judged.nodes.count judged.nodes.table.now c.args.row c.requires judged.room
+returns c = let judged = c.args.self in cells judged.nodes.count judged.nodes.table.now c.args.row c.requires judged.room

@@ -10,7 +10,7 @@ pub returns-then-leads_on-2 : goal.returns-then-leads_on-2
 unfolding name_inside
 returns-then-leads_on-2 c =
     let is = c.requires.read in
-    let links : links_good (rows_of c.args.self.now.nodes) c.args.row ≡ c.if-leads_on.value = elim c.if-leads_on.branch [
+    let links : links_good (rows_of c.args.self.nodes) c.args.row ≡ c.if-leads_on.value = elim c.if-leads_on.branch [
       | then-leads_on w ↦ next_good _ _ _ _ is.child is.next (sym c.leads_on.ensures ∙ w.if-leads_on.true) ∙ sym w.leads_on-then-leads_on.ensures ∙ sym w.value-is
       | else-leads_on w ↦ next_bad _ _ _ is.next (sym c.leads_on.ensures ∙ w.if-leads_on.false) ∙ sym w.if-leads_on.false ∙ sym w.value-is
     ] in
@@ -19,7 +19,7 @@ returns-then-leads_on-2 c =
 pub returns-else-leads_on-2 : goal.returns-else-leads_on-2
 returns-else-leads_on-2 c =
     let is = c.requires.read in
-    let links : links_good (rows_of c.args.self.now.nodes) c.args.row ≡ c.if-leads_on.value = elim c.if-leads_on.branch [
+    let links : links_good (rows_of c.args.self.nodes) c.args.row ≡ c.if-leads_on.value = elim c.if-leads_on.branch [
       | then-leads_on w ↦ next_good _ _ _ _ is.child is.next (sym c.leads_on.ensures ∙ w.if-leads_on.true) ∙ sym w.leads_on-then-leads_on.ensures ∙ sym w.value-is
       | else-leads_on w ↦ next_bad _ _ _ is.next (sym c.leads_on.ensures ∙ w.if-leads_on.false) ∙ sym w.if-leads_on.false ∙ sym w.value-is
     ] in
