@@ -35,6 +35,7 @@ fn first_named(blob: &[u8], rows: &[[u32; PROPERTY_WIDTH]], name: &[u8]) -> Look
 
 impl<'b> Rows<'b, '_> {
     // Where the value lies.
+    #[inline(always)]
     pub fn prop_raw(&self, row: usize, name: &[u8]) -> LookupResult<Span>
         ensures { outcome_of why_of tells result ≡ prop_raw self.now.nodes.blob.now (lent_by self.now) row name.now }
     {
