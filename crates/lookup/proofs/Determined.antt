@@ -33,25 +33,36 @@ pub span_same : (v w : Span) → tells v ≡ tells w → v ≡ w
 unfolding tells
 span_same v w e = ap (λ (s : answer.Span). record { start = s.offset; len = s.size }) e
 
+-- ---- an answer's numbers determine it: it can be told from them
+
+pub found_by_numbers : (r s : Result ℕ LookupError) → numbers itself (outcome why_of r) ≡ numbers itself (outcome why_of s) → r ≡ s
+found_by_numbers r s e = by_outcome (λ n. n) (λ v w e. e) r s (itself_same _ _ e)
+
+pub has_by_numbers : (r s : Result (Unit {0}) LookupError) → numbers nothing (outcome why_of r) ≡ numbers nothing (outcome why_of s) → r ≡ s
+has_by_numbers r s e = by_outcome (λ u. u) (λ v w e. e) r s (nothing_same _ _ e)
+
+pub value_by_numbers : (r s : Result Span LookupError) → numbers place (outcome_of why_of tells r) ≡ numbers place (outcome_of why_of tells s) → r ≡ s
+value_by_numbers r s e = by_outcome tells span_same r s (place_same _ _ e)
+
 -- ---- the calls
 
 module _ (b nodes : List ℕ) (count : ℕ) (path : List ℕ) where
   pub find_determined : (r s : Result ℕ LookupError) → numbers itself (outcome why_of r) ≡ numbers itself (find b nodes count path)
       → numbers itself (outcome why_of s) ≡ numbers itself (find b nodes count path) → r ≡ s
-  find_determined r s e f = by_outcome (λ n. n) (λ v w e. e) r s (itself_same _ _ (e ∙ sym f))
+  find_determined r s e f = found_by_numbers r s (e ∙ sym f)
 
   pub find_from_determined : (row : ℕ) (r s : Result ℕ LookupError) → numbers itself (outcome why_of r) ≡ numbers itself (find_from b nodes count row path)
       → numbers itself (outcome why_of s) ≡ numbers itself (find_from b nodes count row path) → r ≡ s
-  find_from_determined row r s e f = by_outcome (λ n. n) (λ v w e. e) r s (itself_same _ _ (e ∙ sym f))
+  find_from_determined row r s e f = found_by_numbers r s (e ∙ sym f)
 
 module _ (b : List ℕ) (l : Lent) (row : ℕ) (name : List ℕ) where
   pub has_prop_determined : (r s : Result (Unit {0}) LookupError) → numbers nothing (outcome why_of r) ≡ numbers nothing (has_prop b l row name)
       → numbers nothing (outcome why_of s) ≡ numbers nothing (has_prop b l row name) → r ≡ s
-  has_prop_determined r s e f = by_outcome (λ u. u) (λ v w e. e) r s (nothing_same _ _ (e ∙ sym f))
+  has_prop_determined r s e f = has_by_numbers r s (e ∙ sym f)
 
   pub prop_raw_determined : (r s : Result Span LookupError) → numbers place (outcome_of why_of tells r) ≡ numbers place (prop_raw b l row name)
       → numbers place (outcome_of why_of tells s) ≡ numbers place (prop_raw b l row name) → r ≡ s
-  prop_raw_determined r s e f = by_outcome tells span_same r s (place_same _ _ (e ∙ sym f))
+  prop_raw_determined r s e f = value_by_numbers r s (e ∙ sym f)
 
   pub prop_raw_part_determined : (r s : List ℕ) → r ≡ or_empty (bytes_in b (prop_raw b l row name)) → s ≡ or_empty (bytes_in b (prop_raw b l row name)) → r ≡ s
   prop_raw_part_determined r s e f = e ∙ sym f

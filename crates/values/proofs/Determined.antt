@@ -18,7 +18,7 @@ use Rattle.values.specs.declared.error.PropError.TheVariants.{NotFound, Utf8Erro
 
 -- ---- an outcome determines the answer that stands for it
 
-why_same : (x y : PropError) → why_of x ≡ why_of y → x ≡ y
+pub why_same : (x y : PropError) → why_of x ≡ why_of y → x ≡ y
 unfolding why_of
 why_same NotFound NotFound e = refl
 why_same Utf8Error Utf8Error e = refl
@@ -31,12 +31,28 @@ by_outcome : {T A : Type 0} (tells : T → A) → ((v w : T) → tells v ≡ tel
     → outcome_of why_of tells r ≡ outcome_of why_of tells s → r ≡ s
 by_outcome tells values r s e = outcome_same why_of tells values why_same r s e
 
+-- ---- an answer's numbers determine it: it can be told from them
+
+pub text_by_numbers : (r s : Result Span PropError) → numbers place (outcome_of why_of tells r) ≡ numbers place (outcome_of why_of tells s) → r ≡ s
+text_by_numbers r s e = by_outcome tells span_same r s (place_same _ _ e)
+
+-- at any width
+pub number_by_numbers : {T : Type 0} (value : T → ℕ) → ((v w : T) → value v ≡ value w → v ≡ w) → (r s : Result T PropError)
+    → numbers itself (outcome_of why_of value r) ≡ numbers itself (outcome_of why_of value s) → r ≡ s
+number_by_numbers value values r s e = by_outcome value values r s (itself_same _ _ e)
+
+pub number32_by_numbers : (r s : Result ℕ PropError) → numbers itself (outcome why_of r) ≡ numbers itself (outcome why_of s) → r ≡ s
+number32_by_numbers = number_by_numbers (λ n. n) (λ v w e. e)
+
+pub number64_by_numbers : (r s : Result ℕ PropError) → numbers itself (outcome why_of r) ≡ numbers itself (outcome why_of s) → r ≡ s
+number64_by_numbers = number_by_numbers (λ n. n) (λ v w e. e)
+
 -- ---- the calls
 
 module _ (b : List ℕ) (l : Lent) (row : ℕ) (name : List ℕ) where
   pub prop_str_determined : (r s : Result Span PropError) → numbers place (outcome_of why_of tells r) ≡ numbers place (prop_str b l row name)
       → numbers place (outcome_of why_of tells s) ≡ numbers place (prop_str b l row name) → r ≡ s
-  prop_str_determined r s e f = by_outcome tells span_same r s (place_same _ _ (e ∙ sym f))
+  prop_str_determined r s e f = text_by_numbers r s (e ∙ sym f)
 
   pub prop_str_part_determined : (r s : List ℕ) → r ≡ or_empty (bytes_in b (prop_str b l row name)) → s ≡ or_empty (bytes_in b (prop_str b l row name)) → r ≡ s
   prop_str_part_determined r s e f = e ∙ sym f
@@ -45,7 +61,7 @@ module _ (b : List ℕ) (l : Lent) (row : ℕ) (name : List ℕ) where
   pub prop_number_determined : (bytes : ℕ) {T : Type 0} (value : T → ℕ) → ((v w : T) → value v ≡ value w → v ≡ w) → (r s : Result T PropError)
       → numbers itself (outcome_of why_of value r) ≡ numbers itself (prop_number bytes b l row name)
       → numbers itself (outcome_of why_of value s) ≡ numbers itself (prop_number bytes b l row name) → r ≡ s
-  prop_number_determined bytes value values r s e f = by_outcome value values r s (itself_same _ _ (e ∙ sym f))
+  prop_number_determined bytes value values r s e f = number_by_numbers value values r s (e ∙ sym f)
 
   pub prop_u32_determined : (r s : Result ℕ PropError) → numbers itself (outcome why_of r) ≡ numbers itself (prop_u32 b l row name)
       → numbers itself (outcome why_of s) ≡ numbers itself (prop_u32 b l row name) → r ≡ s
