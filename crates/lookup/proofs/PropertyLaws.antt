@@ -9,7 +9,7 @@ use Rattle.format.specs.Format.{property_width}
 use Rattle.format.specs.Rows.{PropertyRow, at, property_at, nodes_in, properties_in}
 use Rattle.format.specs.Load.{capacity}
 use Rattle.format.specs.Find.{same}
-use Rattle.format.specs.Lookup.{usable, parts_inside, property_name, value_span, among, properties_inside, property_of, prop_raw}
+use Rattle.format.specs.Lookup.{Lent, usable, parts_inside, property_name, value_span, among, properties_inside, property_of, prop_raw, has_prop}
 use Rattle.format.proofs.Tools.{if_yes, if_no}
 use Rattle.format.proofs.Answer.{then_ok, then_refused, check_ok, check_no}
 use Rattle.lookup.specs.Answers.{lent}
@@ -111,3 +111,9 @@ module _ (b nodes : List ℕ) (n : ℕ) (props : List ℕ) (m row : ℕ) (name :
         pub raw_among : among b (properties_in m props) (length own) x.first name ≡ goal
         unfolding property_of properties_inside
         raw_among = sym (raw_is ∙ then_ok _ _ (check_ok _ (rw (← is.first, ← is.count, properties_length, e))) (rw (← is.first, ← is.count, own_length)))
+
+-- ---- whether there is one
+
+pub has_it : (b : List ℕ) (l : Lent) (row : ℕ) (name : List ℕ) {s : Span} → ok s ≡ prop_raw b l row name → ok tt ≡ has_prop b l row name
+unfolding has_prop
+has_it b l row name e = sym (then_ok _ _ (sym e) refl)

@@ -54,6 +54,7 @@ impl<'b> Rows<'b, '_> {
     }
 
     // Whether there is such a property.
+    #[tactic(auto, using(crate::proofs::PropertyLaws::has_it, format::proofs::Answer::then_refused), unfolding(format::specs::Lookup::has_prop, format::specs::Results::outcome_of, crate::specs::Answers::why_of))]
     pub fn has_prop(&self, row: usize, name: &[u8]) -> LookupResult<()>
         ensures { outcome why_of result ≡ has_prop self.now.nodes.blob.now (lent_by self.now) row name.now }
     {
