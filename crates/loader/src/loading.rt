@@ -13,6 +13,7 @@ use format::{DEPTH, NODE_WIDTH, NONE, PROPERTY_WIDTH, RESERVATION_WIDTH};
 use survey::{Blob, DeviceTree, DeviceTreeError, survey};
 
 // What `load` answers with unlimited room. It writes nothing.
+#[tactic(auto, using(crate::proofs::LoadLaws::measured, crate::proofs::LoadLaws::not_measured), unfolding(format::specs::Results::outcome_of))]
 pub fn measure(b: &[u8]) -> Result<DeviceTree, DeviceTreeError>
     ensures { Measures b.now (loaded_numbers result) }
 {
