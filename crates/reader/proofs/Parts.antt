@@ -58,6 +58,13 @@ module _ (p : ℕ) where
   unfolding or_empty
   cut_none m x e = sym (ap or_empty (span_none m x e))
 
+  -- what a span tells the length of is what was read, and where there is none nothing was
+  pub span_size : (m : Outcome (List ℕ)) (s : Span) → outcome_of {E = SliceReadError} why_of tells (Ok s) ≡ span_at p m → s.len ≡ length (or_empty m)
+  span_size m s e = let t = span_part m {s = s} e in t.size ∙ ap length (sym (or_empty_lem t.read))
+
+  pub none_size : (m : Outcome (List ℕ)) (x : SliceReadError) → outcome_of {T = Span} why_of tells (Err x) ≡ span_at p m → 0 ≡ length (or_empty m)
+  none_size m x e = ap length (cut_none m x e)
+
 -- the span lies in the bytes, and what is cut out there is what was read
 pub record Cut (b : List ℕ) (s : Span) (xs : List ℕ) : Type 0 where
   pub within : s.start + s.len ≤ length b

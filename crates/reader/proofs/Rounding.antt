@@ -2,7 +2,7 @@
 use mathlib.Core.Path.{◌≡◌, refl, sym, ap, ◌∙◌}
 use mathlib.Core.Logic.{◌≢◌}
 use mathlib.Core.Bool.{not}
-use Prim.Native.Nat.{ℕ, ◌+◌, ◌^◌, ◌≤◌, ◌<◌}
+use Prim.Native.Nat.{ℕ, ◌+◌, ◌-◌, ◌%◌, ◌^◌, ◌≤◌, ◌<◌}
 use native.Mathlib.Omega.{arith}
 use native.Mathlib.Decide.{dec_le}
 use borrow.Author.Tests.{lt-ltb, le-ltb, eq-eqb, ne_eqb}
@@ -10,7 +10,7 @@ use Rattle.format.specs.Answer.{Outcome, ok, refused, unexpected_end_of_input, o
 use Rattle.format.specs.Bytes.{align}
 use Rattle.format.specs.Read.{aligned}
 use Rattle.format.proofs.Answer.{then_ok, then_refused, check_ok, check_no}
-use Rattle.format.proofs.Bytes.{align_near}
+use Rattle.format.proofs.Bytes.{align_near, align_same, align_more}
 use Rattle.reader.specs.declared.SliceReadError.{SliceReadError}
 use Rattle.reader.specs.declared.SliceReadError.TheVariants.{UnexpectedEndOfInput}
 use Rattle.reader.specs.Outcomes.{why_of}
@@ -38,7 +38,7 @@ module _ (val to : ℕ) where
     pub aligned_is : {r : ℕ} → align val to ≡ r → r < 2 ^ 64 → aligned val to ≡ ok r
     aligned_is e h = aligned_there (rw e h) ∙ ap ok e
 
-  -- what the library gives
+  -- what the library's `checked_next_multiple_of` gives
   pub aligned_by : (o : Option ℕ) {r : Result ℕ SliceReadError} → r ≡ ok_or o UnexpectedEndOfInput
       → SomeIff o ((0 < to) × (next_multiple_of val to < 2 ^ 64)) (next_multiple_of val to) → outcome why_of r ≡ aligned val to
   unfolding outcome_of why_of align
@@ -51,6 +51,28 @@ module _ (val to : ℕ) where
           | no k ↦ absurd (h (omega arith, omega arith))
         ]
       ]
+
+-- what `align` answers: 0 is no step, a multiple stays, and any other number goes up by what its remainder lacks
+module _ (val to : ℕ) where
+  pub align_by_none : (0 < to → ⊥) → outcome why_of (Err UnexpectedEndOfInput) ≡ aligned val to
+  unfolding outcome_of why_of
+  align_by_none h = sym (aligned_none val to (omega arith))
+
+  module _ (some : 0 < to) where
+    pub align_stays : val < 2 ^ 64 → val % to ≡ 0 → outcome why_of (Ok val) ≡ aligned val to
+    unfolding outcome_of
+    align_stays h e = sym (aligned_is val to (λ z. omega arith) (align_same val to e) h)
+
+    module _ (over : val % to ≡ 0 → ⊥) where
+      pub align_up : val + (to - val % to) < 2 ^ 64 → outcome why_of (Ok (val + (to - val % to))) ≡ aligned val to
+      unfolding outcome_of
+      align_up h = sym (aligned_is val to (λ z. omega arith) (align_more val to some over) h)
+
+      pub align_past : 2 ^ 64 ≤ val + (to - val % to) → outcome why_of (Err UnexpectedEndOfInput) ≡ aligned val to
+      unfolding outcome_of why_of
+      align_past h = sym (aligned_past val to (λ z. omega arith) (rw (align_more val to some over) h))
+
+pub ruleset align_laws = (align_by_none, align_stays, align_up, align_past)
 
 -- rounding up to a word
 pub aligned_4 : (val : ℕ) → val + 3 < 2 ^ 64 → aligned val 4 ≡ ok (align val 4)

@@ -28,11 +28,20 @@ pub struct Span {
 }
 
 // `val` rounded up to a multiple of `to`. Refused where `to` is 0, or what it gives is past the range.
+#[tactic(auto, using(crate::proofs::Rounding::align_laws))]
 pub fn align(val: usize, to: usize) -> SliceReadResult<usize>
     ensures { outcome why_of result ≡ aligned val to }
 {
-    val.checked_next_multiple_of(to)
-        .ok_or(SliceReadError::UnexpectedEndOfInput)
+    let Some(over) = val.checked_rem(to) else {
+        return Err(SliceReadError::UnexpectedEndOfInput);
+    };
+    if over == 0 {
+        return Ok(val);
+    }
+    match val.checked_add(to - over) {
+        Some(next) => Ok(next),
+        None => Err(SliceReadError::UnexpectedEndOfInput),
+    }
 }
 
 // Where the first zero byte stands.
@@ -49,10 +58,12 @@ pub fn read_bstring0(buf: &[u8], pos: usize) -> SliceReadResult<Span>
     let Some(rest) = buf.get(pos..) else {
         return Err(SliceReadError::UnexpectedEndOfInput);
     };
-    match first_zero(rest) {
-        Some(len) => Ok(Span { start: pos, len }),
-        None => Err(SliceReadError::UnexpectedEndOfInput),
+    // By the place alone: a loop that keeps beside it whether there is a zero byte takes twice the time.
+    let len = first_zero(rest).unwrap_or(rest.len());
+    if len == rest.len() {
+        return Err(SliceReadError::UnexpectedEndOfInput);
     }
+    Ok(Span { start: pos, len })
 }
 
 // The part from start up to, not with, end. Refused unless start ≤ end < length. The parameters are the Rust's own.
@@ -145,6 +156,7 @@ impl Token {
 // ---- the same, for a caller that knows that something is there
 
 // `val` rounded up to a multiple of `to`, `val` itself where there is none in the range.
+#[tactic(auto, using(crate::proofs::Rounding::or_given))]
 pub fn aligned(val: usize, to: usize) -> usize
     ensures { result ≡ or_else val (aligned val to) }
 {
@@ -155,5 +167,8 @@ pub fn aligned(val: usize, to: usize) -> usize
 pub fn string_len(buf: &[u8], pos: usize) -> usize
     ensures { result ≡ length (or_empty (read_bstring0 buf.now pos)) }
 {
-    bstring0_part(buf, pos).len()
+    let Ok(span) = read_bstring0(buf, pos) else {
+        return 0;
+    };
+    span.len
 }

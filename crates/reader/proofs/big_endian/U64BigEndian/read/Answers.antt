@@ -1,4 +1,5 @@
 -- The number of the bytes that are there, or the refusal that `chunk` hands on. Assumes nothing.
+use native.Mathlib.Omega.{arith}
 use Rattle.format.specs.Results.{outcome_of}
 use Rattle.format.proofs.Results.{hands_on}
 use Rattle.format.proofs.Read.{read_past_end}
@@ -12,4 +13,4 @@ returns-in_err-bytes c = hands_on why_of _ _ c.from_residual.ensures.1 (λ y q. 
 
 pub returns : goal.returns
 unfolding outcome_of
-returns c = long_is _ _ c.in_ok-bytes.ensures.ok c.from_be_bytes.ensures
+returns c = long_is _ _ c.in_ok-bytes.ensures.ok (omega (arith, c.from_be_bytes.ensures))
