@@ -79,5 +79,5 @@ pub fn read_be<T: BigEndian>(buf: &[u8], pos: usize) -> SliceReadResult<T>
 pub fn number_at<T: BigEndian>(buf: &[u8], pos: usize) -> T
     ensures { T.value result ≡ or_zero (read_be T.bytes buf.now pos) }
 {
-    T::read(buf, pos).unwrap_or(T::zero())
+    read_be(buf, pos).unwrap_or(T::zero())
 }
