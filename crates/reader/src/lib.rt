@@ -7,7 +7,7 @@ ghost use Rattle.format.specs.Answer.{span_at, or_empty, or_else, or_zero};
 ghost use Rattle.format.specs.Bytes.{part};
 ghost use Rattle.format.specs.Results.{outcome, outcome_of};
 ghost use Rattle.format.specs.Read.{aligned, read_be_u32, read_bstring0, subslice};
-ghost use Rattle.reader.specs.Outcomes.{why_of, tells, token_of, token_at};
+ghost use Rattle.reader.specs.Outcomes.{why_of, tells, number_of, token_of, token_at};
 
 mod big_endian;
 
@@ -125,6 +125,21 @@ impl From<u32> for Token {
             Token::END_NODE => Token::EndNode,
             Token::PROP => Token::Prop,
             _ => Token::Other(number),
+        }
+    }
+}
+
+// The word that a token is. It tells the tokens that `From<u32>` gives apart.
+impl From<Token> for u32 {
+    ghost from_gives = { λ token n. n ≡ number_of token };
+
+    #[tactic(auto, unfolding(crate::specs::Outcomes::number_of, format::specs::Format::BEGIN_NODE, format::specs::Format::END_NODE, format::specs::Format::PROP))]
+    fn from(token: Token) -> u32 {
+        match token {
+            Token::BeginNode => Token::BEGIN_NODE,
+            Token::EndNode => Token::END_NODE,
+            Token::Prop => Token::PROP,
+            Token::Other(number) => number,
         }
     }
 }
