@@ -20,22 +20,41 @@ use Rattle.reader.specs.Outcomes.{why_of, tells, number_of, token_of, token_at}
 
 -- ---- an outcome determines the answer that stands for it
 
-why_same : (x y : SliceReadError) → why_of x ≡ why_of y → x ≡ y
+pub why_same : (x y : SliceReadError) → why_of x ≡ why_of y → x ≡ y
 why_same UnexpectedEndOfInput UnexpectedEndOfInput e = refl
 
-by_outcome : {T A : Type 0} (tells : T → A) → ((v w : T) → tells v ≡ tells w → v ≡ w) → (r s : Result T SliceReadError)
+pub by_outcome : {T A : Type 0} (tells : T → A) → ((v w : T) → tells v ≡ tells w → v ≡ w) → (r s : Result T SliceReadError)
     → outcome_of why_of tells r ≡ outcome_of why_of tells s → r ≡ s
 by_outcome tells values r s e = outcome_same why_of tells values why_same r s e
 
-span_same : (v w : Span) → tells v ≡ tells w → v ≡ w
+pub span_same : (v w : Span) → tells v ≡ tells w → v ≡ w
 unfolding tells
 span_same v w e = ap (λ (s : answer.Span). record { start = s.offset; len = s.size }) e
+
+-- ---- the numbers of an answer determine it: a number of 4 bytes, one of 8 and a position alike, a part, a token
+
+pub word_by_numbers : (r s : Result ℕ SliceReadError) → numbers itself (outcome why_of r) ≡ numbers itself (outcome why_of s) → r ≡ s
+word_by_numbers r s e = by_outcome (λ n. n) (λ v w e. e) r s (itself_same _ _ e)
+
+pub long_by_numbers : (r s : Result ℕ SliceReadError) → numbers itself (outcome why_of r) ≡ numbers itself (outcome why_of s) → r ≡ s
+long_by_numbers = word_by_numbers
+
+pub place_by_numbers : (r s : Result ℕ SliceReadError) → numbers itself (outcome why_of r) ≡ numbers itself (outcome why_of s) → r ≡ s
+place_by_numbers = word_by_numbers
+
+pub span_by_numbers : (r s : Result Span SliceReadError) → numbers place (outcome_of why_of tells r) ≡ numbers place (outcome_of why_of tells s) → r ≡ s
+span_by_numbers r s e = by_outcome tells span_same r s (place_same _ _ e)
+
+-- a token by its number or the refusal: `Other 1` has the number of `BeginNode`, so the numbers determine these alone
+pub token_by_numbers : (r s : Result Token SliceReadError) → numbers itself (outcome_of why_of number_of r) ≡ numbers itself (outcome_of why_of number_of s)
+    → outcome_of why_of number_of r ≡ outcome_of why_of number_of s
+token_by_numbers r s e = itself_same _ _ e
 
 -- ---- the promises
 
 pub align_determined : (val to : ℕ) (r s : Result ℕ SliceReadError)
     → numbers itself (outcome why_of r) ≡ numbers itself (aligned val to) → numbers itself (outcome why_of s) ≡ numbers itself (aligned val to) → r ≡ s
-align_determined val to r s h k = by_outcome (λ n. n) (λ v w e. e) r s (itself_same _ _ (h ∙ sym k))
+align_determined val to r s h k = place_by_numbers r s (h ∙ sym k)
 
 pub aligned_determined : (val to : ℕ) (r s : ℕ) → r ≡ or_else val (aligned val to) → s ≡ or_else val (aligned val to) → r ≡ s
 aligned_determined val to r s h k = h ∙ sym k
@@ -44,7 +63,7 @@ module _ (buf : List ℕ) (start end : ℕ) where
   pub subslice_determined : (r s : Result Span SliceReadError)
       → numbers place (outcome_of why_of tells r) ≡ numbers place (span_at start (subslice buf start end))
       → numbers place (outcome_of why_of tells s) ≡ numbers place (span_at start (subslice buf start end)) → r ≡ s
-  subslice_determined r s h k = by_outcome tells span_same r s (place_same _ _ (h ∙ sym k))
+  subslice_determined r s h k = span_by_numbers r s (h ∙ sym k)
 
   pub subslice_part_determined : (r s : List ℕ) → r ≡ or_empty (subslice buf start end) → s ≡ or_empty (subslice buf start end) → r ≡ s
   subslice_part_determined r s h k = h ∙ sym k
@@ -67,7 +86,7 @@ module _ (buf : List ℕ) (pos : ℕ) where
   pub read_bstring0_determined : (r s : Result Span SliceReadError)
       → numbers place (outcome_of why_of tells r) ≡ numbers place (span_at pos (read_bstring0 buf pos))
       → numbers place (outcome_of why_of tells s) ≡ numbers place (span_at pos (read_bstring0 buf pos)) → r ≡ s
-  read_bstring0_determined r s h k = by_outcome tells span_same r s (place_same _ _ (h ∙ sym k))
+  read_bstring0_determined r s h k = span_by_numbers r s (h ∙ sym k)
 
   pub bstring0_part_determined : (r s : List ℕ) → r ≡ or_empty (read_bstring0 buf pos) → s ≡ or_empty (read_bstring0 buf pos) → r ≡ s
   bstring0_part_determined r s h k = h ∙ sym k
@@ -79,7 +98,7 @@ module _ (buf : List ℕ) (pos : ℕ) where
   -- by numbers alone: the number of the token, or the refusal
   pub token_number_determined : (r s : Result Token SliceReadError) → numbers itself (outcome_of why_of number_of r) ≡ numbers itself (read_be_u32 buf pos)
       → numbers itself (outcome_of why_of number_of s) ≡ numbers itself (read_be_u32 buf pos) → outcome_of why_of number_of r ≡ outcome_of why_of number_of s
-  token_number_determined r s h k = itself_same _ _ (h ∙ sym k)
+  token_number_determined r s h k = token_by_numbers r s (h ∙ sym k)
 
   pub word_at_determined : (r s : ℕ) → r ≡ or_zero (read_be_u32 buf pos) → s ≡ or_zero (read_be_u32 buf pos) → r ≡ s
   word_at_determined r s h k = h ∙ sym k
