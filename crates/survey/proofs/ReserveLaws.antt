@@ -7,11 +7,14 @@ use mathlib.Core.List.{List, [], ◌∷◌}
 use lib.ListN.{length}
 use borrow.Author.Tests.{eq-eqb, ne_eqb}
 use Rattle.format.specs.Choice.{when◌then◌else◌}
-use Rattle.format.specs.Answer.{Refusal, ok, refused, ◌>>=◌}
+use Rattle.format.specs.Answer.{Refusal, ok, refused, unexpected_end_of_input, ◌>>=◌}
 use Rattle.format.specs.Rules.{ours, size_zero}
 use Rattle.format.specs.Read.{read_be_u64, reservation}
 use Rattle.format.proofs.Tools.{if_yes, if_no}
 use Rattle.format.proofs.Answer.{ok_then, then_ok, then_refused, then_then}
+use Rattle.format.specs.Bytes.{value_at}
+use Rattle.format.proofs.Read.{read_there, read_past_end, read_inside}
+use native.Mathlib.Decide.{dec_le}
 use Rattle.format.proofs.Loops.{reservations_turn}
 use Rattle.survey.specs.Reserve.{listed, scan_from}
 
@@ -50,3 +53,14 @@ module _ (b : List ℕ) where
         scan_more n =
             ap (λ m. m >>= λ rs. ok (p + 16 * length rs)) (list_turn p ∙ then_ok _ _ entry (if_no _ _ (ne_eqb size 0 n)))
             ∙ simp (then_then, ok_then, sixteen)
+
+    -- the size alone says whether the entry is there
+    pub scan_short : read_be_u64 b (p + 8) ≡ refused unexpected_end_of_input → scan_from b p ≡ refused unexpected_end_of_input
+    scan_short e =
+        elim (dec_le (p + 8) (length b)) [
+          | yes h ↦ scan_no_size (read_there b 8 p h) e
+          | no h ↦ scan_no_offset (read_past_end b 8 p (omega arith))
+        ]
+
+    pub offset_there : {size : ℕ} → read_be_u64 b (p + 8) ≡ ok size → read_be_u64 b p ≡ ok (value_at 8 b p)
+    offset_there isSize = read_there b 8 p (omega (arith, read_inside b 8 (p + 8) isSize))

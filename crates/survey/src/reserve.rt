@@ -14,7 +14,7 @@ pub(crate) fn scan(b: &[u8], pos: usize) -> Result<usize, DeviceTreeError>
 {
     let mut p = pos;
     loop {
-        let _: u64 = read_be(b, p)?;
+        // Where the size is there the offset before it is there too.
         let size: u64 = read_be(b, p + LENGTH_AT)?;
         p += ENTRY;
         if size == 0 {
