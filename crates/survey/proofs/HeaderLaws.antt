@@ -1,14 +1,15 @@
 -- The header, a word at a time: what the code has read so far decides what the header's outcome is, or what is left of it.
 -- Assumes nothing.
-use mathlib.Core.Path.{◌≡◌, refl, sym, ◌∙◌, subst}
+use mathlib.Core.Path.{◌≡◌, refl, sym, ap, ◌∙◌, subst}
 use mathlib.Core.Logic.{◌≢◌}
-use Prim.Native.Nat.{ℕ, ◌<◌, ◌^◌}
+use Prim.Native.Nat.{ℕ, ◌+◌, ◌≤◌, ◌<◌, ◌^◌}
+use native.Mathlib.Omega.{arith}
 use mathlib.Core.List.{List}
 use mathlib.Core.Bool.{true}
 use lib.ListN.{length}
 use lib.Dec.{eqb}
 use borrow.Author.Tests.{eqb-true, eq-eqb, ne_eqb}
-use Rattle.format.specs.Answer.{Refusal, invalid_magic_number, size_mismatch, version_not_supported, Outcome, ok, refused, ◌>>=◌, check}
+use Rattle.format.specs.Answer.{Refusal, invalid_magic_number, size_mismatch, version_not_supported, Outcome, ok, refused, ◌>>=◌, check, or_zero}
 use Rattle.format.specs.Bytes.{AreBytes}
 use Rattle.format.specs.Format.{magic, version, magic_at, total_size_at, structure_at, strings_at, reservations_at, version_at, boot_cpu_at}
 use Rattle.format.specs.Read.{read_be_u32}
@@ -16,6 +17,7 @@ use Rattle.format.specs.Read as read
 use Rattle.format.proofs.Answer.{ok_same, step, then_ok, then_refused, checked, check_ok, check_no}
 use Rattle.format.proofs.Bytes.{value_small}
 use Rattle.format.proofs.Read.{read_there, read_inside}
+use Rattle.reader.proofs.Numbers.{word_total}
 use Rattle.survey.specs.Survey.{header_of}
 use Rattle.survey.specs.declared.header.Header.{Header}
 
@@ -123,14 +125,30 @@ module _ (b : List ℕ) where
         unfolding words_from
         no_reservations e = refuses (judged (then_ok _ _ is_structure (then_ok _ _ is_strings (then_refused _ _ e))))
 
-        module _ {m : ℕ} (is_reservations : read_be_u32 b reservations_at ≡ ok m) where
-          pub no_boot : {r : Refusal} → read_be_u32 b boot_cpu_at ≡ refused r → header_of b ≡ refused r
-          unfolding words_from
-          no_boot e = refuses (judged (then_ok _ _ is_structure (then_ok _ _ is_strings (then_ok _ _ is_reservations (then_refused _ _ e)))))
+    -- the words before the version are there where the version is, so a total read gives them
+    pub there : (p : ℕ) → p ≤ version_at → read_be_u32 b p ≡ ok (or_zero (read_be_u32 b p))
+    there p h = let inside : p + 4 ≤ length b = omega (arith, read_inside b 4 version_at j.is) in read_there b 4 p inside ∙ ap ok (sym (word_total b p inside))
 
-          pub whole : {boot : ℕ} → read_be_u32 b boot_cpu_at ≡ ok boot → header_of b ≡ ok (record { structure = s; strings = n; reservations = m; boot = boot })
-          unfolding header_of words_from
-          whole e = then_ok _ _ (judged (then_ok _ _ is_structure (then_ok _ _ is_strings (then_ok _ _ is_reservations (then_ok _ _ e refl))))) refl
+    -- so the last word alone decides
+    last : {r : Outcome read.Header}
+        → (read_be_u32 b boot_cpu_at >>= λ boot. ok (record {
+          structure = or_zero (read_be_u32 b structure_at);
+          strings = or_zero (read_be_u32 b strings_at);
+          reservations = or_zero (read_be_u32 b reservations_at);
+          boot = boot;
+        })) ≡ r → read.header b ≡ r
+    unfolding words_from
+    last e =
+        judged (then_ok _ _ (there structure_at (omega arith)) (then_ok _ _ (there strings_at (omega arith)) (then_ok _ _ (there reservations_at (omega arith)) e)))
+
+    pub no_boot : {r : Refusal} → read_be_u32 b boot_cpu_at ≡ refused r → header_of b ≡ refused r
+    no_boot e = refuses (last (then_refused _ _ e))
+
+    -- the whole header, by what the reads gave
+    pub whole : {s n r boot : ℕ} → s ≡ or_zero (read_be_u32 b structure_at) → n ≡ or_zero (read_be_u32 b strings_at) → r ≡ or_zero (read_be_u32 b reservations_at)
+        → read_be_u32 b boot_cpu_at ≡ ok boot → header_of b ≡ ok (record { structure = s; strings = n; reservations = r; boot = boot })
+    unfolding header_of
+    whole {s} {n} {r} {boot} e₁ e₂ e₃ e = then_ok _ _ (last (then_ok _ _ e refl)) (rw (e₁, e₂, e₃))
 
 -- ---- a header that was read: the blob is small, and so is every offset
 
