@@ -33,6 +33,15 @@ chunk_there b p n inside same fits e =
     let size = ap length same ∙ length-drop p b in
     (omega arith, e ∙ ap (take n) same)
 
+-- the first n of the n bytes at p
+pub cut_there : (b : List ℕ) (p n : ℕ) {bytes : List ℕ} → p + n ≤ length b → bytes ≡ take n (take (p + n - p) (drop p b))
+    → (p + n ≤ length b) × (bytes ≡ part b p n)
+unfolding part
+cut_there b p n fits e =
+    let just : p + n - p ≡ n = omega arith in
+    let sized : length (take n (drop p b)) ≡ n = length-take-le n (drop p b) (rw length-drop (omega arith)) in
+    (fits, e ∙ rw just (take_all n (take n (drop p b)) (omega arith)))
+
 -- what was read, and that the span tells its place
 pub record Told (p : ℕ) (m : Outcome (List ℕ)) (s : Span) : Type 0 where
   pub bytes : List ℕ

@@ -59,10 +59,11 @@ fn chunk<const N: usize>(buf: &[u8], pos: usize) -> SliceReadResult<&[u8; N]>
     ensures ok { IfOk result (λ c. (pos + N ≤ length buf.now) × (c.now ≡ part buf.now pos N)) }
     ensures err { OnErr result (length buf.now < pos + N) }
 {
-    let Some(rest) = buf.get(pos..) else {
+    // A loop that reads at many positions tests the length once.
+    if buf.len() < N || buf.len() - N < pos {
         return Err(SliceReadError::UnexpectedEndOfInput);
-    };
-    match rest.first_chunk() {
+    }
+    match buf[pos..pos + N].first_chunk() {
         Some(bytes) => Ok(bytes),
         None => Err(SliceReadError::UnexpectedEndOfInput),
     }

@@ -1,9 +1,7 @@
--- `chunk` meets its promise: the first bytes of what follows pos are those at pos. Assumes nothing.
-use Rattle.reader.proofs.Parts.{rest_is, chunk_there}
+-- `chunk` meets its promise: the bytes that are cut out at pos are those at pos. Assumes nothing.
+use native.Mathlib.Omega.{arith}
+use Rattle.reader.proofs.Parts.{cut_there}
 use Rattle.reader.proofs.big_endian.chunk.Goals as goal
 
-pub returns-in-Some-first_chunk-clause-ok : goal.returns-in-Some-first_chunk-clause-ok
-returns-in-Some-first_chunk-clause-ok g c =
-    let rest = c.in-Some.ensures.lookup.0 in
-    let first = c.in-Some-first_chunk.ensures.cases in
-    chunk_there _ _ _ rest.0 (rest_is c.args.buf.now c.args.pos rest.2) first.enough first.same
+pub returns-in-Some-clause-ok : goal.returns-in-Some-clause-ok
+returns-in-Some-clause-ok g c = cut_there _ _ _ (omega arith) c.in-Some.ensures.cases.same
