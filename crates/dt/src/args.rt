@@ -138,6 +138,8 @@ fn worded(rt: &HostRuntime, task: Task, count: usize) -> Result<Asked, Nonsense>
     Ok(Asked::For(task))
 }
 
+// A frame of its own, so that the rooms for words are off the stack before a file gets its own.
+#[inline(never)]
 pub fn get(rt: &HostRuntime) -> Result<Asked, Nonsense> {
     let count = count(rt);
     if count <= COMMAND {

@@ -78,7 +78,9 @@ fn put(rt: &HostRuntime, why: Failure) -> Result<()> {
     out.flush()
 }
 
-// Of a reader that stops early nothing is told.
+// Of a reader that stops early nothing is told. A frame of its own: else the room for its line lies on the stack of all that goes well.
+#[cold]
+#[inline(never)]
 pub fn tell(rt: &HostRuntime, why: Failure) {
     if let Failure::Unwritten(ErrorKind::BrokenPipe) = why {
         return;

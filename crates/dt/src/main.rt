@@ -88,12 +88,14 @@ fn of_file(rt: &HostRuntime, task: Task, blob: &mut [u8; BLOB]) -> Result<(), Fa
     with_rows(rt, task, text::upto(blob, n))
 }
 
-// A file, with room for it.
+// A file, with room for it. A frame of its own, so that what needs no file, such as the help, doesn't take the room from the stack.
+#[inline(never)]
 fn with_file(rt: &HostRuntime, task: Task) -> Result<(), Failure> {
     let mut blob = [0u8; BLOB];
     of_file(rt, task, &mut blob)
 }
 
+#[inline(never)]
 fn tell_help(rt: &HostRuntime) -> Result<(), Failure> {
     let mut out = Output::new(rt.stdout());
     help::put(&mut out)?;

@@ -28,9 +28,9 @@ pub struct Output<W> {
 }
 
 impl<W: Write> Output<W> {
-    ghost use Rattle.std.specs.Prelude.{[], OnOk};
+    ghost use Rattle.std.specs.Prelude.{◌+◌, length, [], OnOk};
     ghost use Rattle.std.specs.Io.KnownBytes.{Appends};
-    ghost use Rattle.text.specs.Held.{writer, waiting};
+    ghost use Rattle.text.specs.Held.{writer, waiting, held};
 
     pub fn new(to: W) -> Output<W>
         ensures to { writer result ≡ to }
@@ -46,11 +46,38 @@ impl<W: Write> Output<W> {
     // Hands out what waits, all by one call, and of no bytes by none.
     fn hand_out(&mut self) -> Result<()>
         ensures empty { waiting self.new ≡ [] }
+        ensures none { self.new.used ≡ 0 }
         ensures ok { OnOk result (Appends (W.contents (writer self.old)) (W.contents (writer self.new)) (waiting self.old)) }
     {
         let waiting = self.used;
         self.used = 0;
         self.to.write_all(upto(&self.text, waiting))
+    }
+
+    // Bytes that there is room for.
+    #[inline(always)]
+    fn append(&mut self, bytes: &[u8])
+        requires { self.old.used + length bytes.now ≤ 32768 }
+        ensures { Appends (held W.contents self.old) (held W.contents self.new) bytes.now }
+    {
+        let n = bytes.len();
+        let end = self.used + n;
+        self.text[self.used..end].copy_from_slice(bytes);
+        self.used = end;
+    }
+
+    // More bytes than there is room for, by as many writes as they take.
+    #[cold]
+    #[inline(never)]
+    fn write_parts(&mut self, bytes: &[u8]) -> Result<()>
+        ensures { OnOk result (Appends (held W.contents self.old) (held W.contents self.new) bytes.now) }
+    {
+        let mut rest = bytes;
+        while !rest.is_empty() {
+            let n = self.write(rest)?;
+            rest = &rest[n..];
+        }
+        Ok(())
     }
 }
 
@@ -70,10 +97,20 @@ impl<W: Write> Write for Output<W> {
             self.hand_out()?;
         }
         let n = bytes.len().min(ROOM - self.used);
-        let end = self.used + n;
-        self.text[self.used..end].copy_from_slice(&bytes[..n]);
-        self.used = end;
+        self.append(&bytes[..n]);
         Ok(n)
+    }
+
+    // All of the bytes. Mostly there is room for them.
+    #[inline(always)]
+    fn write_all(&mut self, bytes: &[u8]) -> Result<()>
+        ensures ok { OnOk result (Appends (held W.contents self.old) (held W.contents self.new) bytes.now) }
+    {
+        if bytes.len() <= ROOM - self.used {
+            self.append(bytes);
+            return Ok(());
+        }
+        self.write_parts(bytes)
     }
 
     fn flush(&mut self) -> Result<()>
