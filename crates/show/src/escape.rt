@@ -1,10 +1,12 @@
 // Bytes that are not our own, shown so that no terminal is harmed and no line is broken: what is not printable ASCII stands
 // as \xNN, and a backslash as two.
-ghost use Rattle.std.specs.Prelude.{◌≡◌, ◌<◌, ℕ, List, flat_map, Some};
+ghost use Rattle.std.specs.Prelude.{◌≡◌, ◌+◌, ◌<◌, ◌≤◌, ◌++◌, ℕ, List, flat_map, Some};
 ghost use Rattle.std.specs.Fmt.{WritesOnOk};
+ghost use Rattle.show.specs.Chunks.{waiting};
 ghost use Rattle.show.specs.Escaped as escaped;
 ghost use Rattle.show.specs.Told.{told};
 
+use crate::chunk::{self, Chunk};
 use std::fmt::{Display, Formatter, Result, Write};
 
 // How a byte is shown: as it is, behind a backslash, as \xNN, or as what stands between two strings.
@@ -16,18 +18,24 @@ enum Shown {
     Between,
 }
 
-impl Display for Shown {
-    ghost output = { λ s. Some (told s) };
-
-    fn fmt<W: Write>(&self, f: &mut Formatter<W>) -> Result {
-        match *self {
-            Shown::Plain(b) => f.write_char(char::from(b)),
+impl Shown {
+    // Puts it behind what waits.
+    #[inline(always)]
+    fn put(self, chunk: &mut Chunk)
+        requires { chunk.old.used + 16 ≤ 128 }
+        ensures { waiting chunk.new ≡ waiting chunk.old ++ told self }
+    {
+        match self {
+            Shown::Plain(b) => chunk.put_char(b),
             Shown::Behind(b) => {
-                f.write_char('\\')?;
-                f.write_char(char::from(b))
+                chunk.put(*b"\\");
+                chunk.put_char(b);
             }
-            Shown::Number(b) => write!(f, "\\x{b:02x}"),
-            Shown::Between => f.write_str("\", \""),
+            Shown::Number(b) => {
+                chunk.put(*b"\\x");
+                chunk.put(chunk::pair(b));
+            }
+            Shown::Between => chunk.put(*b"\", \""),
         }
     }
 }
@@ -75,10 +83,12 @@ fn all<W: Write, F: Fn(u8) -> Shown>(f: &mut Formatter<W>, s: &[u8], how: F) -> 
     requires { F.IsAlwaysCallable how }
     ensures { (shown : ℕ → List ℕ) → ((b : ℕ) (r : _) → b < 256 → F.post how b r → told r ≡ shown b) → WritesOnOk W.write_str_gives f.old result (flat_map shown s.now) f.new }
 {
+    let mut chunk = Chunk::new();
     for b in s {
-        how(*b).fmt(f)?;
+        chunk.make_room(f)?;
+        how(*b).put(&mut chunk);
     }
-    Ok(())
+    chunk.hand_out(f)
 }
 
 // Bytes in a line: a file, a path, a text.
@@ -119,8 +129,8 @@ impl Display for Strings<'_> {
         let Some((_, s)) = self.0.split_last() else {
             return Ok(());
         };
-        f.write_char('"')?;
+        f.write_str("\"")?;
         all(f, s, in_strings)?;
-        f.write_char('"')
+        f.write_str("\"")
     }
 }

@@ -1,6 +1,7 @@
 // What is shown of a blob and the rows that a load wrote: bytes that are not our own, values as .dts text, and the fields of rows.
 #![tactic(auto)]
 
+mod chunk;
 pub mod escape;
 pub mod fields;
 pub mod value;

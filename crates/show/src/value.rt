@@ -1,8 +1,9 @@
 // A property's value as .dts text: strings where it is text, else cells where its length is a multiple of theirs, else bytes. Text
 // of such a length could be cells as well, and they stand behind it in a comment.
-ghost use Rattle.std.specs.Prelude.{Some};
+ghost use Rattle.std.specs.Prelude.{◌+◌, ◌≤◌, Some};
 ghost use Rattle.show.specs.Escaped.{pairs};
 
+use crate::chunk::{self, Chunk};
 use crate::escape::{self, Name, Strings};
 use std::fmt::{Display, Formatter, Result, Write};
 
@@ -33,12 +34,27 @@ impl Display for Pairs<'_> {
         let Some((first, rest)) = self.0.split_first() else {
             return Ok(());
         };
-        write!(f, "{first:02x}")?;
+        let mut chunk = Chunk::new();
+        chunk.put(chunk::pair(*first));
         for b in rest {
-            write!(f, " {b:02x}")?;
+            chunk.make_room(f)?;
+            chunk.put(*b" ");
+            chunk.put(chunk::pair(*b));
         }
-        Ok(())
+        chunk.hand_out(f)
     }
+}
+
+// A cell as a number, whose first byte is the most significant.
+fn put_cell(chunk: &mut Chunk, cell: [u8; CELL])
+    requires { chunk.old.used + 10 ≤ 128 }
+{
+    let [a, b, c, d] = cell;
+    chunk.put(*b"0x");
+    chunk.put(chunk::pair(a));
+    chunk.put(chunk::pair(b));
+    chunk.put(chunk::pair(c));
+    chunk.put(chunk::pair(d));
 }
 
 // A value's cells, between brackets.
@@ -48,14 +64,16 @@ struct Cells<'a>(&'a [u8]);
 impl Display for Cells<'_> {
     fn fmt<W: Write>(&self, f: &mut Formatter<W>) -> Result {
         let (cells, _) = self.0.as_chunks::<CELL>();
-        let mut apart = "";
-        f.write_char('<')?;
+        let mut chunk = Chunk::new();
+        let mut before = *b"<";
         for cell in cells {
-            let n = u32::from_be_bytes(*cell);
-            write!(f, "{apart}0x{n:08x}")?;
-            apart = " ";
+            chunk.make_room(f)?;
+            chunk.put(before);
+            put_cell(&mut chunk, *cell);
+            before = *b" ";
         }
-        f.write_char('>')
+        chunk.hand_out(f)?;
+        f.write_str(">")
     }
 }
 
@@ -125,7 +143,7 @@ impl Display for Property<'_> {
         let v = self.value;
         Name(self.name).fmt(f)?;
         if v.is_empty() {
-            return f.write_char(';');
+            return f.write_str(";");
         }
         let form = Form::of(v);
         write!(f, " = {form};")?;

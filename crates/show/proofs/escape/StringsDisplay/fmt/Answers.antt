@@ -4,7 +4,6 @@ use Rattle.std.proofs.Output.{has_written_append, has_written_of_eq, writes_in_c
 use Rattle.std.proofs.Math.Dec.{eqb-suc-zero}
 use Prim.Native.Nat.{suc}
 use Rattle.std.proofs.Math.Seq.{take-append_seam}
-use Rattle.std.proofs.lemmas.Str.{encode_ascii}
 use Rattle.std.specs.List.{IsLastAndRest}
 use Rattle.show.specs.Escaped.{in_strings, quoted, strings}
 use Rattle.show.proofs.escape.StringsDisplay.fmt.Goals as goal
@@ -29,8 +28,8 @@ returns-in_default-clause-writes g c = λ plain ok.
 
 pub returns-clause-writes : goal.returns-clause-writes
 returns-clause-writes g c = λ plain ok.
-    let first = c.in_ok-write_char.ensures.writes plain refl in
+    let first = c.in_ok-write_str.ensures.writes plain refl in
     let bytes = c.in_ok-all.ensures in_strings (λ b r small same. same) first.plain refl in
-    let last = c.write_char-2.ensures.writes bytes.plain ok in
+    let last = c.write_str-2.ensures.writes bytes.plain ok in
     let is = of_rest c.args.self.now.0.now c.in-Some.s.now c.in-Some.field-0-0.now c.in-Some.ensures.cases in
-    has_written_of_eq _ _ _ _ _ (rw (encode_ascii 34 (omega arith)) is) (has_written_append _ _ _ _ _ _ first (has_written_append _ _ _ _ _ _ bytes last))
+    has_written_of_eq _ _ _ _ _ is (has_written_append _ _ _ _ _ _ first (has_written_append _ _ _ _ _ _ bytes last))

@@ -1,0 +1,2 @@
+-- Laws that several proofs of `show` share.
+pub mod Chunks
