@@ -1,6 +1,6 @@
 // Text that waits in a small buffer, so that a formatter is asked once for many bytes.
 ghost use Rattle.std.specs.Prelude.{◌≡◌, ◌<◌, ◌≤◌, false};
-ghost use Rattle.std.specs.Fmt.{digit_glyph};
+ghost use Rattle.std.specs.Fmt.{digit_glyph, WritesOnOk};
 ghost use Rattle.show.specs.Escaped as escaped;
 
 use std::fmt::{Error, Formatter, Result, Write};
@@ -24,6 +24,17 @@ fn digit(n: u8) -> u8
     if n < 10 { b'0' + n } else { b'a' - 10 + n }
 }
 
+// Hands bytes to a formatter, which takes text alone.
+#[inline(always)]
+pub fn hand_over<W: Write>(f: &mut Formatter<W>, bytes: &[u8]) -> Result
+    ensures { WritesOnOk W.write_str_gives f.old result bytes.now f.new }
+{
+    match str::from_utf8(bytes) {
+        Ok(text) => f.write_str(text),
+        Err(_) => Err(Error),
+    }
+}
+
 // What waits: so many of the buffer's first bytes.
 #[derive(Drop)]
 pub struct Chunk {
@@ -35,7 +46,6 @@ pub struct Chunk {
 impl Chunk {
     ghost use Rattle.std.specs.Prelude.{◌+◌, ◌++◌, [], IsOk, OnOk};
     ghost use Rattle.std.specs.Char.{encode_utf8};
-    ghost use Rattle.std.specs.Fmt.{WritesOnOk};
     ghost use Rattle.show.specs.Chunks.{waiting, Holds};
 
     pub fn new() -> Chunk
@@ -80,10 +90,7 @@ impl Chunk {
         ensures empty { IsOk result → waiting self.new ≡ [] }
         ensures none { OnOk result (self.new.used ≡ 0) }
     {
-        let Ok(text) = str::from_utf8(&self.text[..self.used]) else {
-            return Err(Error);
-        };
-        f.write_str(text)?;
+        hand_over(f, &self.text[..self.used])?;
         self.used = 0;
         Ok(())
     }

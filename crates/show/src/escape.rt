@@ -1,6 +1,6 @@
 // Bytes that are not our own, shown so that no terminal is harmed and no line is broken: what is not printable ASCII stands
 // as \xNN, and a backslash as two.
-ghost use Rattle.std.specs.Prelude.{◌≡◌, ◌+◌, ◌<◌, ◌≤◌, ◌++◌, ℕ, List, flat_map, Some};
+ghost use Rattle.std.specs.Prelude.{◌≡◌, ◌+◌, ◌<◌, ◌≤◌, ◌∷◌, ◌++◌, ℕ, List, [], IsTrue, flat_map, Some};
 ghost use Rattle.std.specs.Fmt.{WritesOnOk};
 ghost use Rattle.show.specs.Chunks.{waiting};
 ghost use Rattle.show.specs.Escaped as escaped;
@@ -36,6 +36,19 @@ impl Shown {
                 chunk.put(chunk::pair(b));
             }
             Shown::Between => chunk.put(*b"\", \""),
+        }
+    }
+}
+
+impl Shown {
+    // Whether a byte that is shown so stands as it is.
+    #[inline(always)]
+    fn is(self, b: u8) -> bool
+        ensures { IsTrue result → told self ≡ b ∷ [] }
+    {
+        match self {
+            Shown::Plain(shown) => shown == b && b < 128,
+            _ => false,
         }
     }
 }
@@ -79,10 +92,26 @@ fn in_strings(b: u8) -> Shown
     }
 }
 
+// Whether all of the bytes stand as they are.
+fn is_plain<F: Fn(u8) -> Shown>(s: &[u8], how: &F) -> bool
+    requires { F.IsAlwaysCallable how.now }
+    ensures { IsTrue result → (shown : ℕ → List ℕ) → ((b : ℕ) (r : _) → b < 256 → F.post how.now b r → told r ≡ shown b) → flat_map shown s.now ≡ s.now }
+{
+    for b in s {
+        if !how(*b).is(*b) {
+            return false;
+        }
+    }
+    true
+}
+
 fn all<W: Write, F: Fn(u8) -> Shown>(f: &mut Formatter<W>, s: &[u8], how: F) -> Result
     requires { F.IsAlwaysCallable how }
     ensures { (shown : ℕ → List ℕ) → ((b : ℕ) (r : _) → b < 256 → F.post how b r → told r ≡ shown b) → WritesOnOk W.write_str_gives f.old result (flat_map shown s.now) f.new }
 {
+    if is_plain(s, &how) {
+        return chunk::hand_over(f, s);
+    }
     let mut chunk = Chunk::new();
     for b in s {
         chunk.make_room(f)?;

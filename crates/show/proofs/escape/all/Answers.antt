@@ -1,5 +1,6 @@
 -- `show::escape::all` writes what its bytes come to, one behind another. Assumes nothing.
 use Rattle.std.proofs.Common.{rules, ◌++◌, ◌∙◌, true, refl, ap, sym, take, take_all}
+use Rattle.std.proofs.Output.{has_written_of_eq}
 use Rattle.std.proofs.lemmas.List.{take_more, flat_map_more}
 use Rattle.std.specs.Prelude.{[], flat_map}
 use Rattle.show.proofs.Chunks.{holds_more, holds_of_eq, written}
@@ -16,6 +17,10 @@ loop-b-preserved g c = (
       let more = flat_map_more shown [] (take i s) _ ∙ ap (flat_map shown) (sym (take_more s i 0 c.loop-b-test.true)) in
       holds_of_eq _ _ _ _ _ _ (ap (λ t. flat_map shown (take i s) ++ t) byte ∙ more) (holds_more _ _ _ _ _ _ _ c.put.ensures so_far),
 )
+
+pub returns-then-is_plain : goal.returns-then-is_plain
+returns-then-is_plain g c = λ shown same plain ok.
+    has_written_of_eq _ _ _ _ _ (sym (c.if-is_plain.ensures refl shown same)) (c.hand_over.ensures plain ok)
 
 pub returns : goal.returns
 returns g c = λ shown same plain ok.
