@@ -1,8 +1,9 @@
 // Text that waits in a buffer, so that much goes out by one call.
 #![tactic(auto)]
 
-ghost use Rattle.std.specs.Prelude.{◌≡◌, ◌≤◌, take};
+ghost use Rattle.std.specs.Prelude.{◌≡◌, ◌≤◌, take, ⊤};
 
+use std::alloc::AllocError;
 use std::io::{Result, Write};
 
 // The room for text that waits to be written.
@@ -26,6 +27,19 @@ pub struct Output<W> {
     used: usize,
     ghost inside: { used ≤ 32768 },
 }
+
+// A copy, where the writer can be copied: what waits then waits in both.
+impl<W: Copy> Clone for Output<W> {
+    ghost is_clone = { λ x y. y ≡ x };
+
+    ghost is_infallible = { λ _. ⊤ };
+
+    fn clone(&self) -> std::result::Result<Output<W>, AllocError> {
+        Ok(*self)
+    }
+}
+
+impl<W: Copy> Copy for Output<W> {}
 
 impl<W: Write> Output<W> {
     ghost use Rattle.std.specs.Prelude.{◌+◌, length, [], OnOk};
