@@ -1,4 +1,7 @@
 // What goes wrong, each told by one line on standard error.
+ghost use Rattle.std.specs.Prelude.{◌≡◌, [], OnOk};
+ghost use Rattle.text.specs.Held.{waiting};
+
 use crate::args::{COMMAND, FILE, NAME, PATH, Word};
 use crate::file::Unread;
 use crate::find;
@@ -71,9 +74,10 @@ impl Display for Told<'_> {
     }
 }
 
-fn put(rt: &HostRuntime, why: Failure) -> Result<()> {
-    let told = Told { rt, why };
-    let mut out = Output::new(rt.stderr());
+// Its line, all of it handed out.
+fn put<W: Write>(out: &mut Output<W>, told: Told<'_>) -> Result<()>
+    ensures { OnOk result (waiting out.new ≡ []) }
+{
     writeln!(out, "dt: {told}")?;
     out.flush()
 }
@@ -85,6 +89,7 @@ pub fn tell(rt: &HostRuntime, why: Failure) {
     if let Failure::Unwritten(ErrorKind::BrokenPipe) = why {
         return;
     }
+    let mut out = Output::new(rt.stderr());
     // Nobody can be told that standard error cannot be written.
-    let _ = put(rt, why);
+    let _ = put(&mut out, Told { rt, why });
 }

@@ -1,9 +1,13 @@
 // `dt help`, and what is said where the words of the command line make no sense.
+ghost use Rattle.std.specs.Prelude.{◌≡◌, [], OnOk};
+ghost use Rattle.text.specs.Held.{waiting};
+
 use crate::args::{ROOM as WORD, Task, Word};
 use crate::{BLOB, NODES, PROPERTIES, RESERVATIONS};
 use format::DEPTH;
 use std::fmt::{self, Formatter};
 use std::io::{Result, Write};
+use text::Output;
 
 // Command lines that make no sense: a task with too few or too many words, none at all, or a word that is no command or is too long.
 #[derive(Clone, Copy)]
@@ -43,8 +47,10 @@ pub fn wrong<W: fmt::Write>(f: &mut Formatter<W>, command: Word<'_>, why: Nonsen
     }
 }
 
-// What the commands do, and how they show what they find.
-pub fn put(out: &mut impl Write) -> Result<()> {
+// What the commands do, and how they show what they find: all of it handed out.
+pub fn put<W: Write>(out: &mut Output<W>) -> Result<()>
+    ensures { OnOk result (waiting out.new ≡ []) }
+{
     write!(
         out,
         "dt reads flattened device trees (.dtb).
@@ -74,5 +80,6 @@ and {DEPTH} nodes one inside another.
 What goes wrong is one line on standard error. The exit status of ./dt is then 1, or 2 where
 the command line makes no sense; else 0.
 "
-    )
+    )?;
+    out.flush()
 }

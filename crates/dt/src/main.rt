@@ -1,6 +1,9 @@
 // dt: a device tree blob on the command line. Answers go to standard output; what goes wrong is one line on standard error.
 #![tactic(auto)]
 
+ghost use Rattle.std.specs.Prelude.{◌≡◌, [], OnOk};
+ghost use Rattle.text.specs.Held.{waiting};
+
 mod args;
 mod failure;
 mod file;
@@ -35,21 +38,33 @@ const NODE_CELLS: usize = NODES * NODE_WIDTH;
 
 const PROPERTY_CELLS: usize = PROPERTIES * PROPERTY_WIDTH;
 
-// A tree that was loaded.
-fn of_tree(rt: &HostRuntime, task: Task, tree: &Tree) -> Result<(), Failure> {
-    let mut out = Output::new(rt.stdout());
+// What is asked of a tree, and all of it handed out.
+fn answer<W: Write>(
+    rt: &HostRuntime,
+    task: Task,
+    tree: &Tree,
+    out: &mut Output<W>,
+) -> Result<(), Failure>
+    ensures { OnOk result (waiting out.new ≡ []) }
+{
     match task {
         Task::Check => {
             let file = Word::at(rt, FILE);
             let loaded = loaded::Loaded(tree.counts);
             writeln!(out, "{file}: good: {loaded}")?;
         }
-        Task::Tree => tree::put(&mut out, tree)?,
-        Task::Find => find::put(rt, &mut out, tree)?,
-        Task::Prop(reading) => prop::put(rt, &mut out, tree, reading)?,
+        Task::Tree => tree::put(out, tree)?,
+        Task::Find => find::put(rt, out, tree)?,
+        Task::Prop(reading) => prop::put(rt, out, tree, reading)?,
     }
     out.flush()?;
     Ok(())
+}
+
+// A tree that was loaded.
+fn of_tree(rt: &HostRuntime, task: Task, tree: &Tree) -> Result<(), Failure> {
+    let mut out = Output::new(rt.stdout());
+    answer(rt, task, tree, &mut out)
 }
 
 // A file's bytes, loaded into the room for its rows.
@@ -99,7 +114,6 @@ fn with_file(rt: &HostRuntime, task: Task) -> Result<(), Failure> {
 fn tell_help(rt: &HostRuntime) -> Result<(), Failure> {
     let mut out = Output::new(rt.stdout());
     help::put(&mut out)?;
-    out.flush()?;
     Ok(())
 }
 
