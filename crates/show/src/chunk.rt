@@ -5,6 +5,7 @@ ghost use Rattle.show.specs.Escaped as escaped;
 
 use std::fmt::{Error, Formatter, Result, Write};
 
+// The room for the text that waits.
 const ROOM: usize = 128;
 
 // The most that is put there before it is looked at again.

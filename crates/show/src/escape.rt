@@ -38,9 +38,7 @@ impl Shown {
             Shown::Between => chunk.put(*b"\", \""),
         }
     }
-}
 
-impl Shown {
     // Whether a byte that is shown so stands as it is.
     #[inline(always)]
     fn is(self, b: u8) -> bool
@@ -105,6 +103,7 @@ fn is_plain<F: Fn(u8) -> Shown>(s: &[u8], how: &F) -> bool
     true
 }
 
+// What the bytes come to, one behind another: they themselves, without a copy, where that is so.
 fn all<W: Write, F: Fn(u8) -> Shown>(f: &mut Formatter<W>, s: &[u8], how: F) -> Result
     requires { F.IsAlwaysCallable how }
     ensures { (shown : ℕ → List ℕ) → ((b : ℕ) (r : _) → b < 256 → F.post how b r → told r ≡ shown b) → WritesOnOk W.write_str_gives f.old result (flat_map shown s.now) f.new }
