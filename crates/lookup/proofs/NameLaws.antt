@@ -5,6 +5,7 @@ use borrow.Author.Tests.{eqb-false}
 use Rattle.format.specs.Bytes.{part}
 use Rattle.format.specs.Find.{SLASH, head, rest}
 use Rattle.format.proofs.Tools.{tested, if_yes, if_no}
+use Rattle.names.proofs.NameLaws.{head_inside}
 
 -- whether there is a path, as the code asks
 pub some : (p : List ℕ) {t : Bool} → t ≡ eqb (length p) 0 → t ≡ false → 0 < length p
@@ -12,11 +13,6 @@ some p e t = omega (arith, eqb-false _ _ (sym e ∙ t))
 
 pub none : (p : List ℕ) {t : Bool} → t ≡ eqb (length p) 0 → t ≡ true → length p ≤ 0
 none p e t = omega (arith, eqb-true _ _ (sym e ∙ t))
-
-head_inside : (p : List ℕ) → length (head p) ≤ length p
-unfolding head
-head_inside [] = omega arith
-head_inside (c ∷ p) = tested (eqb c SLASH) (λ e. rw (if_yes _ _ e) (omega arith)) (λ e. rw (if_no _ _ e) (omega (arith, head_inside p)))
 
 head_is : (p : List ℕ) → head p ≡ take (length (head p)) p
 unfolding head

@@ -1,3 +1,3 @@
--- Determined is for callers; NameLaws is what the proofs here cite.
+-- Determined is for callers; NameLaws is what the proofs here cite, and `head_inside` of it what lookup's cite.
 pub mod Determined
-mod NameLaws
+pub mod NameLaws

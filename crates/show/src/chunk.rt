@@ -12,7 +12,7 @@ const ROOM: usize = 128;
 const STEP: usize = 16;
 
 // A byte's two hexadecimal digits.
-pub fn pair(b: u8) -> [u8; 2]
+pub(crate) fn pair(b: u8) -> [u8; 2]
     ensures { result ≡ escaped.pair b }
 {
     [digit(b / 16), digit(b % 16)]
@@ -27,7 +27,7 @@ fn digit(n: u8) -> u8
 
 // Hands bytes to a formatter, which takes text alone.
 #[inline(always)]
-pub fn hand_over<W: Write>(f: &mut Formatter<W>, bytes: &[u8]) -> Result
+pub(crate) fn hand_over<W: Write>(f: &mut Formatter<W>, bytes: &[u8]) -> Result
     ensures { WritesOnOk W.write_str_gives f.old result bytes.now f.new }
 {
     match str::from_utf8(bytes) {
@@ -38,7 +38,7 @@ pub fn hand_over<W: Write>(f: &mut Formatter<W>, bytes: &[u8]) -> Result
 
 // What waits: so many of the buffer's first bytes.
 #[derive(Drop)]
-pub struct Chunk {
+pub(crate) struct Chunk {
     text: [u8; ROOM],
     used: usize,
     ghost inside: { used ≤ 128 },
@@ -49,7 +49,7 @@ impl Chunk {
     ghost use Rattle.std.specs.Char.{encode_utf8};
     ghost use Rattle.show.specs.Chunks.{waiting, Holds};
 
-    pub fn new() -> Chunk
+    pub(crate) fn new() -> Chunk
         ensures empty { waiting result ≡ [] }
         ensures none { result.used ≡ 0 }
     {
@@ -61,7 +61,7 @@ impl Chunk {
 
     // Bytes more, which fit behind the others.
     #[inline(always)]
-    pub fn put<const N: usize>(&mut self, bytes: [u8; N])
+    pub(crate) fn put<const N: usize>(&mut self, bytes: [u8; N])
         requires { self.old.used + N ≤ 128 }
         ensures text { waiting self.new ≡ waiting self.old ++ bytes.entry }
         ensures used { self.new.used ≡ self.old.used + N }
@@ -73,7 +73,7 @@ impl Chunk {
 
     // The character of that number.
     #[inline(always)]
-    pub fn put_char(&mut self, b: u8)
+    pub(crate) fn put_char(&mut self, b: u8)
         requires { self.old.used + 2 ≤ 128 }
         ensures text { waiting self.new ≡ waiting self.old ++ encode_utf8 b }
         ensures used { self.new.used ≤ self.old.used + 2 }
@@ -86,7 +86,7 @@ impl Chunk {
     }
 
     // Hands out what waits.
-    pub fn hand_out<W: Write>(&mut self, f: &mut Formatter<W>) -> Result
+    pub(crate) fn hand_out<W: Write>(&mut self, f: &mut Formatter<W>) -> Result
         ensures writes { WritesOnOk W.write_str_gives f.old result (waiting self.old) f.new }
         ensures empty { IsOk result → waiting self.new ≡ [] }
         ensures none { OnOk result (self.new.used ≡ 0) }
@@ -98,7 +98,7 @@ impl Chunk {
 
     // Hands it out where there may be no room for a step more.
     #[inline(always)]
-    pub fn make_room<W: Write>(&mut self, f: &mut Formatter<W>) -> Result
+    pub(crate) fn make_room<W: Write>(&mut self, f: &mut Formatter<W>) -> Result
         ensures room { OnOk result (self.new.used + 16 ≤ 128) }
         ensures holds { (start : _) (bs : _) → Holds W.write_str_gives start bs f.old (waiting self.old) → IsOk result → Holds W.write_str_gives start bs f.new (waiting self.new) }
     {
