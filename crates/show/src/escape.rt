@@ -1,6 +1,6 @@
 // Bytes that are not our own, shown so that no terminal is harmed and no line is broken: what is not printable ASCII stands
 // as \xNN, and a backslash as two.
-ghost use Rattle.std.specs.Prelude.{◌≡◌, ◌+◌, ◌<◌, ◌≤◌, ◌∷◌, ◌++◌, ℕ, List, [], IsTrue, flat_map, Some};
+ghost use Rattle.std.specs.Prelude.{◌≡◌, ◌+◌, ◌<◌, ◌≤◌, ◌∷◌, ◌++◌, ℕ, List, [], IsOk, IsTrue, flat_map, Some};
 ghost use Rattle.std.specs.Fmt.{WritesOnOk};
 ghost use Rattle.show.specs.Chunks.{waiting};
 ghost use Rattle.show.specs.Escaped as escaped;
@@ -103,11 +103,15 @@ fn is_plain<F: Fn(u8) -> Shown>(s: &[u8], how: &F) -> bool
     true
 }
 
-// What the bytes come to, one behind another: they themselves, without a copy, where that is so.
+// What the bytes come to, one behind another: they themselves, without a copy, where that is so. For no bytes no writer is asked.
 fn all<W: Write, F: Fn(u8) -> Shown>(f: &mut Formatter<W>, s: &[u8], how: F) -> Result
     requires { F.IsAlwaysCallable how }
-    ensures { (shown : ℕ → List ℕ) → ((b : ℕ) (r : _) → b < 256 → F.post how b r → told r ≡ shown b) → WritesOnOk W.write_str_gives f.old result (flat_map shown s.now) f.new }
+    ensures none { s.now ≡ [] → IsOk result × (f.new ≡ f.old) }
+    ensures writes { (shown : ℕ → List ℕ) → ((b : ℕ) (r : _) → b < 256 → F.post how b r → told r ≡ shown b) → WritesOnOk W.write_str_gives f.old result (flat_map shown s.now) f.new }
 {
+    if s.is_empty() {
+        return Ok(());
+    }
     if is_plain(s, &how) {
         return chunk::hand_over(f, s);
     }

@@ -18,12 +18,12 @@ loop-b-preserved g c = (
       holds_of_eq _ _ _ _ _ _ (ap (λ t. flat_map shown (take i s) ++ t) byte ∙ more) (holds_more _ _ _ _ _ _ _ c.put.ensures so_far),
 )
 
-pub returns-then-is_plain : goal.returns-then-is_plain
-returns-then-is_plain g c = λ shown same plain ok.
+pub returns-then-is_plain-clause-writes : goal.returns-then-is_plain-clause-writes
+returns-then-is_plain-clause-writes g c = λ shown same plain ok.
     has_written_of_eq _ _ _ _ _ (sym (c.if-is_plain.ensures refl shown same)) (c.hand_over.ensures plain ok)
 
-pub returns : goal.returns
-returns g c = λ shown same plain ok.
+pub returns-clause-writes : goal.returns-clause-writes
+returns-clause-writes g c = λ shown same plain ok.
     let so_far = c.loop-b.invariant.1 shown same plain in
     let whole = ap (flat_map shown) (take_all _ c.args.s.now c.loop-b-test.false) in
     written _ _ _ _ _ _ (holds_of_eq _ _ _ _ _ _ whole so_far) (c.hand_out.ensures.writes so_far.wrote.plain ok)

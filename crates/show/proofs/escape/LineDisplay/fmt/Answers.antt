@@ -4,4 +4,4 @@ use Rattle.show.proofs.escape.LineDisplay.fmt.Goals as goal
 
 pub returns-clause-writes : goal.returns-clause-writes
 unfolding line
-returns-clause-writes g c = c.all.ensures in_line (λ b r small same. same)
+returns-clause-writes g c = c.all.ensures.writes in_line (λ b r small same. same)

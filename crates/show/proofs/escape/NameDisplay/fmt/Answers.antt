@@ -17,4 +17,4 @@ unfolding name
 returns-clause-writes g c = λ plain ok.
     let s = c.args.self.now.0.now in
     let is = ap (λ (none : Bool). if none then codes "/* no name */" else flat_map in_name s) c.if-is_empty.ensures in
-    has_written_of_eq _ _ _ _ _ is (c.all.ensures in_name (λ b r small same. same) plain ok)
+    has_written_of_eq _ _ _ _ _ is (c.all.ensures.writes in_name (λ b r small same. same) plain ok)

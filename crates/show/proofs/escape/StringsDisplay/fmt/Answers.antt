@@ -29,7 +29,7 @@ returns-in_default-clause-writes g c = λ plain ok.
 pub returns-clause-writes : goal.returns-clause-writes
 returns-clause-writes g c = λ plain ok.
     let first = c.in_ok-write_str.ensures.writes plain refl in
-    let bytes = c.in_ok-all.ensures in_strings (λ b r small same. same) first.plain refl in
+    let bytes = c.in_ok-all.ensures.writes in_strings (λ b r small same. same) first.plain refl in
     let last = c.write_str-2.ensures.writes bytes.plain ok in
     let is = of_rest c.args.self.now.0.now c.in-Some.s.now c.in-Some.field-0-0.now c.in-Some.ensures.cases in
     has_written_of_eq _ _ _ _ _ is (has_written_append _ _ _ _ _ _ first (has_written_append _ _ _ _ _ _ bytes last))
