@@ -4,4 +4,6 @@
 mod chunk;
 pub mod escape;
 pub mod fields;
+#[cfg(test)]
+mod tests;
 pub mod value;
