@@ -1,4 +1,4 @@
-// Of no bytes a caller's own writer is asked nothing, which the contract of `Display` leaves open.
+// For no bytes a caller's own writer is asked nothing, which the contract of `Display` leaves open.
 use crate::escape::{Line, Strings};
 use std::fmt::{Error, Result, Write};
 
